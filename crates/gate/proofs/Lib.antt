@@ -1,0 +1,2 @@
+pub mod Gatelaws
+pub mod Gatesteps

@@ -1,0 +1,2 @@
+pub mod GatedLine
+pub mod Standings

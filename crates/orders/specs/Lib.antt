@@ -1,0 +1,4 @@
+pub mod Counting
+pub mod Orders
+pub mod Services
+pub mod Gating

@@ -1,0 +1,9 @@
+pub mod Checked
+pub mod Served
+pub mod Agreement
+pub mod Bounds
+pub mod Standing
+pub mod Induction
+pub mod Records
+pub mod Reached
+pub mod Guaranteed

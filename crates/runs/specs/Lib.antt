@@ -1,0 +1,4 @@
+pub mod Refusals
+pub mod Histories
+pub mod Steps
+pub mod Guarantee
