@@ -23,7 +23,8 @@ gate-table = record {
   «second_holder» = Some 3;
   «two_in_gate» = false;
   «count_two_below» = Some 1;
-  «third_holder» = Some 2 }
+  «third_holder» = Some 2;
+}
 
 -- at codes 5, 6 and 9 task 2 is covered and counts 1; one pass later it stands below and counts 1
 abbrev pub covered-table : CoveredCase

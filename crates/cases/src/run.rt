@@ -28,7 +28,11 @@ fn line_case() -> LineCase
     let first = line.count(0, 0);
     let second = line.count(0, 1);
     let third = line.count(0, 2);
-    LineCase { first, second, third }
+    LineCase {
+        first,
+        second,
+        third,
+    }
 }
 
 fn gate_case() -> GateCase
@@ -89,7 +93,10 @@ fn covered_case() -> CoveredCase
 fn key_case() -> KeyCase
     ensures { λ a. ⌜ a ≡ key-table ⌝ }
 {
-    let last_normal = BandLevel { band: 1, level: 255 };
+    let last_normal = BandLevel {
+        band: 1,
+        level: 255,
+    };
     let first_background = BandLevel { band: 2, level: 0 };
     KeyCase {
         last_due: Deadline::code_at(4294967295, 4294967295),

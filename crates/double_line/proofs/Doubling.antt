@@ -20,7 +20,8 @@ doubled-rules v rules small = record {
   first = λ r t h. let e = rules .first r t h in omega arith;
   later = λ r t h c w. let e = rules .later r t h c w in omega arith;
   cover = rules .cover;
-  bounded = λ r t h. let e = rules .bounded r t h in omega arith }
+  bounded = λ r t h. let e = rules .bounded r t h in omega arith;
+}
 
 kept : (v w : Meaning) (r t : ℕ) → Kept v w r t → Kept (doubled v) (doubled w) r t
 kept v w r t k = record { queued = k .queued; code = k .code; count = λ h. ap (λ n. 2 * n) (k .count h); covered = k .covered }
@@ -39,7 +40,9 @@ doubled-admits v r t c a w h = record {
     alone = j .alone;
     behind = j .behind;
     beside = λ u ne. kept v w r u (j .beside u ne);
-    apart = λ q ne. (j .apart q ne .0, λ u. kept v w q u (j .apart q ne .1 u)) } }
+    apart = λ q ne. (j .apart q ne .0, λ u. kept v w q u (j .apart q ne .1 u));
+  };
+}
 
 pub doubled-passes : (v : Meaning) (r : ℕ) (a : Result (Option ℕ) OrderRefusal) (w : Meaning) → Passes v r a w → Passes (doubled v) r a (doubled w)
 doubled-passes v r a w h = record {
@@ -52,7 +55,9 @@ doubled-passes v r a w h = record {
     codes = l .codes;
     falls = λ t q. let e = l .falls t q in omega arith;
     nears = λ t q c. let e = l .nears t q c in omega arith;
-    apart = λ q ne. (l .apart q ne .0, λ u. kept v w q u (l .apart q ne .1 u)) } }
+    apart = λ q ne. (l .apart q ne .0, λ u. kept v w q u (l .apart q ne .1 u));
+  };
+}
 
 -- the same line makes the same value
 pub same : (s z : DoubleLine) → z .line ≡ s .line → z ≡ s

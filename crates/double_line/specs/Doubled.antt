@@ -17,7 +17,8 @@ doubled v = record {
   holder = v .holder;
   code = v .code;
   count = λ r t. 2 * v .count r t;
-  covered = v .covered }
+  covered = v .covered;
+}
 
 -- what a value means
 abbrev pub double-meaning : DoubleLine → Meaning

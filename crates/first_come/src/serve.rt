@@ -18,7 +18,11 @@ fn fitting(width: u32, places: u32) -> u32
     ensures told { λ a. ⌜ a ≡ cond (leb 1 width && (leb width 16 && (leb 1 places && leb places 64))) places 0 ⌝ }
     ensures few { λ a. ⌜ a ≤ 64 ⌝ }
 {
-    if 1 <= width && width <= 16 && 1 <= places && places <= 64 { places } else { 0 }
+    if 1 <= width && width <= 16 && 1 <= places && places <= 64 {
+        places
+    } else {
+        0
+    }
 }
 
 impl FirstCome {

@@ -14,6 +14,7 @@ use orders::Order;
 use std::io;
 
 const RADIO: u32 = 0;
+
 const DIVERT_ARM: u32 = 2;
 
 fn name(task: u32) -> &'static str {
@@ -30,19 +31,37 @@ fn tell_standing(rt: LibcRuntime, gate: &Gate<FirstCome>, task: u32) -> io::Resu
     match where_stands(gate, RADIO, task) {
         Standing::Away => println!(rt, "  {who}: is not queued."),
         Standing::Holds => println!(rt, "  {who}: holds the radio."),
-        Standing::Below(n) => println!(rt, "  {who}: is in line; holds that count against it: at most {n}."),
-        Standing::InGate(n) => println!(rt, "  {who}: waits in the gate; holds that count against it: at most {n}."),
-        Standing::Covered(n) => println!(rt, "  {who}: waits in the gate behind more urgent tasks only, which costs it nothing; holds that count against it later: at most {n}."),
+        Standing::Below(n) => println!(
+            rt,
+            "  {who}: is in line; holds that count against it: at most {n}."
+        ),
+        Standing::InGate(n) => println!(
+            rt,
+            "  {who}: waits in the gate; holds that count against it: at most {n}."
+        ),
+        Standing::Covered(n) => println!(
+            rt,
+            "  {who}: waits in the gate behind more urgent tasks only, which costs it nothing; holds that count against it later: at most {n}."
+        ),
     }
 }
 
 // A task asks for the radio: it arrives at a tick with a relative deadline.
-fn ask(rt: LibcRuntime, gate: &mut Gate<FirstCome>, task: u32, arrival: u32, deadline: u32) -> io::Result<()> {
+fn ask(
+    rt: LibcRuntime,
+    gate: &mut Gate<FirstCome>,
+    task: u32,
+    arrival: u32,
+    deadline: u32,
+) -> io::Result<()> {
     let who = name(task);
     let Some(due) = Deadline::code_at(deadline, arrival) else {
         return println!(rt, "{who} declares a deadline that is out of range.");
     };
-    println!(rt, "{who} (task {task}) arrives at tick {arrival}, is due at tick {due}, and asks for the radio.")?;
+    println!(
+        rt,
+        "{who} (task {task}) arrives at tick {arrival}, is due at tick {due}, and asks for the radio."
+    )?;
     match gate.admit(RADIO, task, due) {
         Ok(()) => tell_standing(rt, gate, task),
         Err(_) => println!(rt, "  It is refused."),
@@ -87,8 +106,14 @@ fn pass(rt: LibcRuntime, gate: &mut Gate<FirstCome>) -> io::Result<()> {
 fn main(rt: LibcRuntime) -> io::Result<()> {
     let mut gate = gated_line(2);
     let reach = gate.reach();
-    println!(rt, "A dock with 2 cores: 2 tasks stand in line for the radio, and the others wait")?;
-    println!(rt, "in the gate. At most {reach} holds of others count against anybody's wait.")?;
+    println!(
+        rt,
+        "A dock with 2 cores: 2 tasks stand in line for the radio, and the others wait"
+    )?;
+    println!(
+        rt,
+        "in the gate. At most {reach} holds of others count against anybody's wait."
+    )?;
     println!(rt, "We follow the divert arm.")?;
     println!(rt, "")?;
     ask(rt, &mut gate, 0, 0, 30)?;

@@ -55,7 +55,8 @@ shut-rules m = record {
   first = λ r t h. refl;
   later = λ r t h c w. absurd (true≢false (sym h));
   cover = λ r t h c. absurd (true≢false (sym h));
-  bounded = λ r t h. omega arith }
+  bounded = λ r t h. omega arith;
+}
 
 held-some : (o : Option ℕ) → (o ≡ None → ⊥) → (t : ℕ) × (o ≡ Some t)
 held-some None n = absurd (n refl)
@@ -72,8 +73,9 @@ module _ {L : Type 0} (o : Ghosts L) (laws : Lawful o) where
   gate-rules s =
       let l = s .lower in
       elim (cases-bool (s .fresh && fit (mean l))) [
-        inl y ↦ rw y (gated-rules (mean l) (fit-parts (mean l) (laws .rules l) (and-parts (s .fresh) (fit (mean l)) y .1)) (marked (s .rows)) (noted (s .rows)) (marked-bound (s .rows)))
-      | inr n ↦ rw n (shut-rules (mean l .width)) ]
+        | inl y ↦ rw y (gated-rules (mean l) (fit-parts (mean l) (laws .rules l) (and-parts (s .fresh) (fit (mean l)) y .1)) (marked (s .rows)) (noted (s .rows)) (marked-bound (s .rows)))
+        | inr n ↦ rw n (shut-rules (mean l .width))
+      ]
 
   open-after : (s z : Gate L) → z .fresh ≡ s .fresh → Fixed (mean (s .lower)) (mean (z .lower)) → (s .fresh && fit (mean (s .lower))) ≡ true → (z .fresh && fit (mean (z .lower))) ≡ true
   open-after s z e f y = rw (e, fit-same (mean (s .lower)) (mean (z .lower)) f) y
@@ -88,30 +90,34 @@ module _ {L : Type 0} (o : Ghosts L) (laws : Lawful o) where
   gate-admits s r t c (Ok tt) z h =
       let v = mean (s .lower) in
       elim (cases-bool (s .fresh && fit v)) [
-        inr n ↦ absurd (admit-ok (shut (v .width)) r t (sym (rw n at (h .told))) .room (none-queued (v .width) r))
-      | inl y ↦
-          let ok = fit-parts v (laws .rules (s .lower)) (and-parts (s .fresh) (fit v) y .1) in
-          let told : Ok tt ≡ admit-answer (gated v (marked (s .rows)) (noted (s .rows))) r t = rw y at (h .told) in
-          let out = or-parts (v .queued r t) (inside v (marked (s .rows)) r t) (admit-ok (gated v (marked (s .rows)) (noted (s .rows))) r t (sym told) .new) .0 in
-          elim (cases-lt (size v r) (v .width)) [
-            inl room ↦
-              let b = h .below refl room in
-              let A = laws .admitting (s .lower) r t c (Ok tt) (z .lower) (b .0) in
-              let f = A .fixed in
-              rw (y, open-after s z (h .same) f y) (record {
-                told = told;
-                refused = λ e x. (let k : _≡_ {A = ℕ} 0 1 = cc in absurd (omega arith));
-                fixed = gated-fixed s z f;
-                joined = λ _. joined-below v (mean (z .lower)) (marked (s .rows)) (marked (z .rows)) (noted (s .rows)) (noted (z .rows)) (f .width) (f .reach) r t c room (A .joined refl) (b .2) (b .1 .marks) (b .1 .codes) })
-          | inr many ↦
-              let full : size v r ≡ v .width = (let q = ok .rules .room r in let e = ok .exact in omega arith) in
-              let g = h .gate refl full in
-              let f = fixed-itself v (mean (z .lower)) (ap mean (g .0)) in
-              rw (y, open-after s z (h .same) f y) (subst (λ (l : L). Admits (gated v (marked (s .rows)) (noted (s .rows))) r t c (Ok tt) (gated (mean l) (marked (z .rows)) (noted (z .rows)))) (sym (g .0)) (record {
-                told = told;
-                refused = λ e x. (let k : _≡_ {A = ℕ} 0 1 = cc in absurd (omega arith));
-                fixed = record { width = refl; places = refl; reach = refl };
-                joined = λ _. joined-gate v (marked (s .rows)) (marked (z .rows)) (noted (s .rows)) (noted (z .rows)) r t c (ok .some) full out (g .1 .mark) (g .1 .code) (g .1 .marks) (g .1 .codes) })) ] ]
+        | inr n ↦ absurd (admit-ok (shut (v .width)) r t (sym (rw n at (h .told))) .room (none-queued (v .width) r))
+        | inl y ↦
+            let ok = fit-parts v (laws .rules (s .lower)) (and-parts (s .fresh) (fit v) y .1) in
+            let told : Ok tt ≡ admit-answer (gated v (marked (s .rows)) (noted (s .rows))) r t = rw y at (h .told) in
+            let out = or-parts (v .queued r t) (inside v (marked (s .rows)) r t) (admit-ok (gated v (marked (s .rows)) (noted (s .rows))) r t (sym told) .new) .0 in
+            elim (cases-lt (size v r) (v .width)) [
+              | inl room ↦
+                  let b = h .below refl room in
+                  let A = laws .admitting (s .lower) r t c (Ok tt) (z .lower) (b .0) in
+                  let f = A .fixed in
+                  rw (y, open-after s z (h .same) f y) (record {
+                    told = told;
+                    refused = λ e x. (let k : _≡_ {A = ℕ} 0 1 = cc in absurd (omega arith));
+                    fixed = gated-fixed s z f;
+                    joined = λ _. joined-below v (mean (z .lower)) (marked (s .rows)) (marked (z .rows)) (noted (s .rows)) (noted (z .rows)) (f .width) (f .reach) r t c room (A .joined refl) (b .2) (b .1 .marks) (b .1 .codes);
+                  })
+              | inr many ↦
+                  let full : size v r ≡ v .width = (let q = ok .rules .room r in let e = ok .exact in omega arith) in
+                  let g = h .gate refl full in
+                  let f = fixed-itself v (mean (z .lower)) (ap mean (g .0)) in
+                  rw (y, open-after s z (h .same) f y) (subst (λ (l : L). Admits (gated v (marked (s .rows)) (noted (s .rows))) r t c (Ok tt) (gated (mean l) (marked (z .rows)) (noted (z .rows)))) (sym (g .0)) (record {
+                    told = told;
+                    refused = λ e x. (let k : _≡_ {A = ℕ} 0 1 = cc in absurd (omega arith));
+                    fixed = record { width = refl; places = refl; reach = refl };
+                    joined = λ _. joined-gate v (marked (s .rows)) (marked (z .rows)) (noted (s .rows)) (noted (z .rows)) r t c (ok .some) full out (g .1 .mark) (g .1 .code) (g .1 .marks) (g .1 .codes);
+                  }))
+            ]
+      ]
 
   -- the pass below went well
   module _ (s : Gate L) (mid : L) (r : ℕ) (b : Result (Option ℕ) OrderRefusal) (known : r < 32) (h : ℕ) (held : o .holder (s .lower) r ≡ Some h) (p : o .passed (s .lower) r b mid) (ok : Fit (mean (s .lower))) where
@@ -153,15 +159,17 @@ module _ {L : Type 0} (o : Ghosts L) (laws : Lawful o) where
       let v = mean (s .lower) in
       let holds = gate-meaning o z .holder r in
       elim (cases-bool (s .fresh && fit v)) [
-        inr closed ↦ absurd (pass-ok (shut (v .width)) r holds n (sym (rw closed at (h .told))) .1 refl)
-      | inl y ↦
-          let ok = fit-parts v (laws .rules (s .lower)) (and-parts (s .fresh) (fit v) y .1) in
-          let pk = pass-ok (gated v (marked (s .rows)) (noted (s .rows))) r holds n (sym (rw y at (h .told))) in
-          let hh = held-some (v .holder r) (pk .1) in
-          let d = h .left n refl in
-          let m = moves-left s (d .0) r (d .1) (pk .0) (hh .0) (hh .1) (d .2) ok z (d .3) (d .4) in
-          record {
-            told = h .told;
-            refused = λ e x. (let k : _≡_ {A = ℕ} 0 1 = cc in absurd (omega arith));
-            fixed = rw (y, open-after s z (h .same) (m .1) y) (gated-fixed s z (m .1));
-            left = λ k x. rw (y, open-after s z (h .same) (m .1) y) (m .0) } ]
+        | inr closed ↦ absurd (pass-ok (shut (v .width)) r holds n (sym (rw closed at (h .told))) .1 refl)
+        | inl y ↦
+            let ok = fit-parts v (laws .rules (s .lower)) (and-parts (s .fresh) (fit v) y .1) in
+            let pk = pass-ok (gated v (marked (s .rows)) (noted (s .rows))) r holds n (sym (rw y at (h .told))) in
+            let hh = held-some (v .holder r) (pk .1) in
+            let d = h .left n refl in
+            let m = moves-left s (d .0) r (d .1) (pk .0) (hh .0) (hh .1) (d .2) ok z (d .3) (d .4) in
+            record {
+              told = h .told;
+              refused = λ e x. (let k : _≡_ {A = ℕ} 0 1 = cc in absurd (omega arith));
+              fixed = rw (y, open-after s z (h .same) (m .1) y) (gated-fixed s z (m .1));
+              left = λ k x. rw (y, open-after s z (h .same) (m .1) y) (m .0);
+            }
+      ]

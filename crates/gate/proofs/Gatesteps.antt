@@ -68,11 +68,14 @@ module _ (rows : List Row) (r : ℕ) (row : Row) (long : r < length rows) where
     mark = mark-set t true mark ∙ rw (lt-ltb r 32 rk, lt-ltb t 64 tk);
     code = code-set t ∙ code;
     marks = λ q u ne. elim (cases-eq q r) [
-        inl e ↦ subst (λ x. marked (set rows r row) x u ≡ marked rows x u) (sym e) (kept-mark u (marks u (ne e)))
-      | inr d ↦ beside-set .marks q u d ];
+      | inl e ↦ subst (λ x. marked (set rows r row) x u ≡ marked rows x u) (sym e) (kept-mark u (marks u (ne e)))
+      | inr d ↦ beside-set .marks q u d
+    ];
     codes = λ q u ne. elim (cases-eq q r) [
-        inl e ↦ subst (λ x. noted (set rows r row) x u ≡ noted rows x u) (sym e) (code-set u ∙ codes u (ne e))
-      | inr d ↦ beside-set .codes q u d ] }
+      | inl e ↦ subst (λ x. noted (set rows r row) x u ≡ noted rows x u) (sym e) (code-set u ∙ codes u (ne e))
+      | inr d ↦ beside-set .codes q u d
+    ];
+  }
 
 held-none : (o : Option ℕ) → isSome o ≡ false → o ≡ None
 held-none None e = refl
@@ -82,8 +85,9 @@ each-row : (r t : ℕ) → getD (getD fresh-rows r no-row .waits) t false ≡ fa
 each-row r t =
     let full : Row = record { waits = replicate 64 false; codes = replicate 64 0 } in
     elim (cases-lt r 32) [
-      inl b ↦ ap (λ x. getD (x .waits) t false) (getD-replicate 32 r full no-row b) ∙ getD-blank 64 t
-    | inr b ↦ ap (λ x. getD (x .waits) t false) (getD-past (replicate 32 full) r no-row (simp length-replicate b)) ]
+      | inl b ↦ ap (λ x. getD (x .waits) t false) (getD-replicate 32 r full no-row b) ∙ getD-blank 64 t
+      | inr b ↦ ap (λ x. getD (x .waits) t false) (getD-past (replicate 32 full) r no-row (simp length-replicate b))
+    ]
 
 unmarked : (v : Meaning) (r t : ℕ) → (marked fresh-rows r t && (eqb (size v r) (v .width) && true)) ≡ false
 unmarked v r t = rw (each-row r t, never (ltb r 32) (ltb t 64))
@@ -104,7 +108,8 @@ module _ {L : Type 0} (o : Ghosts L) (laws : Lawful o) (s : Gate L) where
     refused = λ e x. refl;
     same = refl;
     below = λ x. (let z : _≡_ {A = ℕ} 0 1 = cc in absurd (omega arith));
-    gate = λ x. (let z : _≡_ {A = ℕ} 0 1 = cc in absurd (omega arith)) }
+    gate = λ x. (let z : _≡_ {A = ℕ} 0 1 = cc in absurd (omega arith));
+  }
 
   -- the gate has a place for whoever is not queued
   pub open-answer : (r t : ℕ) → r < 32 → t < 64 → (s .fresh && fit low) ≡ true → gate-meaning o s .queued r t ≡ false → admit-answer (gate-meaning o s) r t ≡ Ok tt
@@ -123,7 +128,8 @@ module _ {L : Type 0} (o : Ghosts L) (laws : Lawful o) (s : Gate L) where
         refused = λ e x. (let k : _≡_ {A = ℕ} 0 1 = cc in absurd (omega arith));
         same = refl;
         below = λ x n. (h, beside, clear);
-        gate = λ x n. absurd (omega arith) }
+        gate = λ x n. absurd (omega arith);
+      }
 
   pub gate-admit : (r t c : ℕ) (next : List Row) → r < 32 → t < 64 → (s .fresh && fit low) ≡ true → gate-meaning o s .queued r t ≡ false → low .width ≤ size low r → Entered (s .rows) r t c next → GateAdmitted o s r t c (Ok tt) (after (s .lower) next)
   gate-admit r t c next rk tk y new full e = record {
@@ -131,7 +137,8 @@ module _ {L : Type 0} (o : Ghosts L) (laws : Lawful o) (s : Gate L) where
     refused = λ e x. (let k : _≡_ {A = ℕ} 0 1 = cc in absurd (omega arith));
     same = refl;
     below = λ x n. absurd (omega arith);
-    gate = λ x n. (refl, e) }
+    gate = λ x n. (refl, e);
+  }
 
   -- ---- pass
 
@@ -139,8 +146,9 @@ module _ {L : Type 0} (o : Ghosts L) (laws : Lawful o) (s : Gate L) where
   open-held : (r h : ℕ) → gate-meaning o s .holder r ≡ Some h → ((s .fresh && fit low) ≡ true) × (low .holder r ≡ Some h)
   open-held r h e =
       elim (cases-bool (s .fresh && fit low)) [
-        inl y ↦ (y, rw y at e)
-      | inr n ↦ let x : None ≡ Some h = rw n at e in let z : _≡_ {A = ℕ} 0 1 = cc in absurd (omega arith) ]
+        | inl y ↦ (y, rw y at e)
+        | inr n ↦ let x : None ≡ Some h = rw n at e in let z : _≡_ {A = ℕ} 0 1 = cc in absurd (omega arith)
+      ]
 
   pub held-known : (r h : ℕ) → gate-meaning o s .holder r ≡ Some h → h < 64
   held-known r h e = let m = open-held r h e in laws .rules (s .lower) .within r h (laws .rules (s .lower) .held r h (m .1)) .1
@@ -151,16 +159,24 @@ module _ {L : Type 0} (o : Ghosts L) (laws : Lawful o) (s : Gate L) where
       told = ap Ok e ∙ sym (pass-fine (gate-meaning o s) r h (gate-meaning o (after mid (set (s .rows) r one)) .holder r) rk held);
       refused = λ x y. (let z : _≡_ {A = ℕ} 0 1 = cc in absurd (omega arith));
       same = refl;
-      left = λ k x. (mid, b, p, nobody (λ u. elim (cases-bool (inside low (marked (s .rows)) r u)) [ inr n ↦ n | inl y ↦ none u (marked-bound (s .rows) r u (inside-parts low (marked (s .rows)) r u y .mark) .1) ]) refl
-        (λ u y. elim (cases-eq u h) [
-            inl d ↦ absurd (true≢false (sym y ∙ unmarked-set (s .rows) r one long u (subst (λ x. getD (one .waits) x false ≡ false) (sym d) m1)))
-          | inr ne ↦ sym (kept-mark (s .rows) r one long u (n1 u ne)) ∙ y ]), beside-set (s .rows) r one long) }
+      left = λ k x. (
+        mid,
+        b,
+        p,
+        nobody (λ u. elim (cases-bool (inside low (marked (s .rows)) r u)) [ inr n ↦ n | inl y ↦ none u (marked-bound (s .rows) r u (inside-parts low (marked (s .rows)) r u y .mark) .1) ]) refl
+            (λ u y. elim (cases-eq u h) [
+              | inl d ↦ absurd (true≢false (sym y ∙ unmarked-set (s .rows) r one long u (subst (λ x. getD (one .waits) x false ≡ false) (sym d) m1)))
+              | inr ne ↦ sym (kept-mark (s .rows) r one long u (n1 u ne)) ∙ y
+            ]),
+        beside-set (s .rows) r one long,
+      );
+    }
 
     pub moved-pass : (t : ℕ) (one two : Row) (k : ℕ) (a : Result (Unit {0}) OrderRefusal) (z : L) (n : Option ℕ) → r < length (s .rows) → Best low (s .rows) r 64 (Some t)
-      → getD (one .waits) h false ≡ false → ((u : ℕ) → (u ≡ h → ⊥) → getD (one .waits) u false ≡ getD (getD (s .rows) r no-row .waits) u false) → one .codes ≡ getD (s .rows) r no-row .codes
-      → getD (two .waits) t false ≡ false → ((u : ℕ) → (u ≡ t → ⊥) → getD (two .waits) u false ≡ getD (getD (set (s .rows) r one) r no-row .waits) u false) → two .codes ≡ getD (set (s .rows) r one) r no-row .codes
-      → k ≡ noted (set (set (s .rows) r one) r two) r t → o .admitted mid r t k a z → n ≡ gate-meaning o (after z (set (set (s .rows) r one) r two)) .holder r
-      → GatePassed o s r (Ok n) (after z (set (set (s .rows) r one) r two))
+        → getD (one .waits) h false ≡ false → ((u : ℕ) → (u ≡ h → ⊥) → getD (one .waits) u false ≡ getD (getD (s .rows) r no-row .waits) u false) → one .codes ≡ getD (s .rows) r no-row .codes
+        → getD (two .waits) t false ≡ false → ((u : ℕ) → (u ≡ t → ⊥) → getD (two .waits) u false ≡ getD (getD (set (s .rows) r one) r no-row .waits) u false) → two .codes ≡ getD (set (s .rows) r one) r no-row .codes
+        → k ≡ noted (set (set (s .rows) r one) r two) r t → o .admitted mid r t k a z → n ≡ gate-meaning o (after z (set (set (s .rows) r one) r two)) .holder r
+        → GatePassed o s r (Ok n) (after z (set (set (s .rows) r one) r two))
     moved-pass t one two k a z n long best m1 n1 c1 m2 n2 c2 code joins e =
         let rows = s .rows in
         let next = set (set rows r one) r two in
@@ -181,28 +197,32 @@ module _ {L : Type 0} (o : Ghosts L) (laws : Lawful o) (s : Gate L) where
           left = λ u x. unmarked-set (set rows r one) r two long2 u (subst (λ y. getD (two .waits) y false ≡ false) (same u x) gone);
           taken = unmarked-set (set rows r one) r two long2 t m2;
           marks = λ u x ne. mark-set (set rows r one) r two long2 u (getD (getD rows r no-row .waits) u false) (waits u ne ∙ n1 u (λ d. x (who ∙ ap Some (sym d))));
-          codes = codes } in
+          codes = codes;
+        } in
         record {
           told = ap Ok e ∙ sym (pass-fine (gate-meaning o s) r h (gate-meaning o (after z next) .holder r) rk held);
           refused = λ x y. (let q : _≡_ {A = ℕ} 0 1 = cc in absurd (omega arith));
           same = refl;
-          left = λ k x. (mid, b, p, moved mv, record { marks = λ q u ne. b2 .marks q u ne ∙ b1 .marks q u ne; codes = λ q u ne. b2 .codes q u ne ∙ b1 .codes q u ne }) }
+          left = λ k x. (mid, b, p, moved mv, record { marks = λ q u ne. b2 .marks q u ne ∙ b1 .marks q u ne; codes = λ q u ne. b2 .codes q u ne ∙ b1 .codes q u ne });
+        }
 
 -- a new gate has nobody
 pub new-empty : {L : Type 0} (o : Ghosts L) (laws : Lawful o) (l : L) (fresh : Bool) → fresh ≡ idle (meaning o l) → (r t : ℕ) → gate-meaning o (record { lower = l; fresh = fresh; rows = fresh-rows }) .queued r t ≡ false
 new-empty o laws l fresh e r t =
     let v = meaning o l in
     elim (cases-bool (fresh && fit v)) [
-      inr n ↦ rw n
-    | inl y ↦
-        let all : idle v ≡ true = sym e ∙ and-parts fresh (fit v) y .0 in
-        let out : v .queued r t ≡ false = elim (cases-bool (v .queued r t)) [
-            inr n ↦ n
-          | inl q ↦
-              let k = laws .rules l .within r t q in
-              let h = held-none (v .holder r) (not-true (isSome (v .holder r)) (every-at (λ x. not (isSome (v .holder x))) 32 all r (k .0))) in
-              absurd (laws .rules l .some r t q h) ] in
-        rw (y, out) (unmarked v r t) ]
+      | inr n ↦ rw n
+      | inl y ↦
+          let all : idle v ≡ true = sym e ∙ and-parts fresh (fit v) y .0 in
+          let out : v .queued r t ≡ false = elim (cases-bool (v .queued r t)) [
+            | inr n ↦ n
+            | inl q ↦
+                let k = laws .rules l .within r t q in
+                let h = held-none (v .holder r) (not-true (isSome (v .holder r)) (every-at (λ x. not (isSome (v .holder x))) 32 all r (k .0))) in
+                absurd (laws .rules l .some r t q h)
+          ] in
+          rw (y, out) (unmarked v r t)
+    ]
 
 -- the numbers of a new gate
 pub new-places : {L : Type 0} (o : Ghosts L) (l : L) (fresh : Bool) → fresh ≡ idle (meaning o l) → gate-meaning o (record { lower = l; fresh = fresh; rows = fresh-rows }) .places ≡ cond (idle (meaning o l) && fit (meaning o l)) 64 0

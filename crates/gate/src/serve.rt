@@ -253,7 +253,9 @@ pub impl<L: Order> Order for Gate<L> as GateOrder {
     }
 
     fn queued(&self, resource: u32, task: u32) -> bool {
-        self.is_open() && (self.lower.queued(resource, task) || self.waits(self.is_full(resource), resource, task))
+        self.is_open()
+            && (self.lower.queued(resource, task)
+                || self.waits(self.is_full(resource), resource, task))
     }
 
     fn code(&self, resource: u32, task: u32) -> Option<u64> {
@@ -284,7 +286,10 @@ pub impl<L: Order> Order for Gate<L> as GateOrder {
     }
 
     fn covered(&self, resource: u32, task: u32) -> bool {
-        if !self.is_open() || self.lower.queued(resource, task) || !self.waits(self.is_full(resource), resource, task) {
+        if !self.is_open()
+            || self.lower.queued(resource, task)
+            || !self.waits(self.is_full(resource), resource, task)
+        {
             return false;
         }
         let code = self.noted(resource, task);

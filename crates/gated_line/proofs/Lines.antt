@@ -37,11 +37,13 @@ line-admit {s} {z} {m} {p} {xs} {a} t c l h tk new room =
       r-known = omega arith;
       t-known = ltb-true t 64 tk;
       new = ap (has t) (l .line) ∙ new;
-      room = λ e. omega (arith, line-size s m p xs l, l .places, ltb-true (length xs) p room) }) in
+      room = λ e. omega (arith, line-size s m p xs l, l .places, ltb-true (length xs) p room);
+    }) in
     record {
       width = h .width ∙ l .width;
       places = h .places ∙ l .places;
-      line = h .line (h .told ∙ fine) ∙ ap (λ ys. ys ++ (record { task = t; code = c } ∷ [])) (l .line) }
+      line = h .line (h .told ∙ fine) ∙ ap (λ ys. ys ++ (record { task = t; code = c } ∷ [])) (l .line);
+    }
 
 pub line-count : {s : FirstCome} {m p : ℕ} {xs : List Entry} {o : Option ℕ} (t : ℕ) → Lined s m p xs → o ≡ asked (first-meaning s .queued 0 t) (first-meaning s .count 0 t) → o ≡ asked (has t xs) (place t xs)
 line-count t l e = e ∙ ap (λ ys. asked (has t ys) (place t ys)) (l .line)

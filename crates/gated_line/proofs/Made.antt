@@ -32,12 +32,13 @@ idle-new s e = ap (λ ls. every (λ r. not (isSome (leader (cond (ltb r 32) (wai
 fit-new : (s : FirstCome) (m : ℕ) → s .width ≡ m → s .places ≡ cond (leb 1 m && leb m 16) m 0 → fit (first-meaning s) ≡ (leb 1 m && leb m 16)
 fit-new s m w p =
     elim (cases-bool (leb 1 m && leb m 16)) [
-      inl y ↦
-        let a = and-parts (leb 1 m) (leb m 16) y in
-        let q : s .places ≡ m = p ∙ rw y in
-        let b : leb (2 * (m - 1) + 1) 65535 ≡ true = le-leb (2 * (m - 1) + 1) 65535 (omega (arith, leb-true m 16 (a .1))) in
-        rw (w, q, a .0, a .1, eq-eqb m m refl, b)
-    | inr n ↦ rw (w, p, n) (shut (leb 1 m) (leb m 16) (eqb 0 m) (leb (2 * (0 - 1) + 1) 65535) n) ]
+      | inl y ↦
+          let a = and-parts (leb 1 m) (leb m 16) y in
+          let q : s .places ≡ m = p ∙ rw y in
+          let b : leb (2 * (m - 1) + 1) 65535 ≡ true = le-leb (2 * (m - 1) + 1) 65535 (omega (arith, leb-true m 16 (a .1))) in
+          rw (w, q, a .0, a .1, eq-eqb m m refl, b)
+      | inr n ↦ rw (w, p, n) (shut (leb 1 m) (leb m 16) (eqb 0 m) (leb (2 * (0 - 1) + 1) 65535) n)
+    ]
   where
     shut : (a b c d : Bool) → (a && b) ≡ false → (a && (b && (c && d))) ≡ false
     shut a b c d n = grind arith
@@ -53,7 +54,8 @@ module _ (l : FirstCome) (m : ℕ) (w : l .width ≡ m) (p : l .places ≡ cond 
     places = ap (λ x. x .places) e ∙ fitted;
     lines = ap (λ x. x .lines) e ∙ n;
     fresh = f ∙ idle-new l n;
-    rows = r }
+    rows = r;
+  }
 
   pub made-open : (idle (first-meaning l) && fit (first-meaning l)) ≡ (leb 1 m && leb m 16)
   made-open = rw (idle-new l n) (fit-new l m w fitted)
@@ -61,8 +63,9 @@ module _ (l : FirstCome) (m : ℕ) (w : l .width ≡ m) (p : l .places ≡ cond 
   pub made-reach : cond (idle (first-meaning l) && fit (first-meaning l)) (2 * (l .places - 1) + 1) 0 ≡ cond (leb 1 m && leb m 16) (2 * m - 1) 0
   made-reach =
       ap (λ b. cond b (2 * (l .places - 1) + 1) 0) made-open ∙ elim (cases-bool (leb 1 m && leb m 16)) [
-        inl y ↦
-          let a = and-parts (leb 1 m) (leb m 16) y in
-          let q : l .places ≡ m = fitted ∙ rw y in
-          rw y (omega (arith, leb-true 1 m (a .0)))
-      | inr o ↦ rw o ]
+        | inl y ↦
+            let a = and-parts (leb 1 m) (leb m 16) y in
+            let q : l .places ≡ m = fitted ∙ rw y in
+            rw y (omega (arith, leb-true 1 m (a .0)))
+        | inr o ↦ rw o
+      ]

@@ -57,34 +57,39 @@ has-without : (u b : ℕ) (ys : List Entry) → (u ≡ b → ⊥) → has u (wit
 has-without u b [] ne = refl
 has-without u b (e ∷ es) ne =
     elim (cases-bool (eqb (e .task) b)) [
-      inl y ↦ let n : eqb (e .task) u ≡ false = ne-eqb (e .task) u (λ d. ne (sym d ∙ eqb-true (e .task) b y)) in rw (y, n) (has-without u b es ne)
-    | inr n ↦ rw (n, has-without u b es ne) ]
+      | inl y ↦ let n : eqb (e .task) u ≡ false = ne-eqb (e .task) u (λ d. ne (sym d ∙ eqb-true (e .task) b y)) in rw (y, n) (has-without u b es ne)
+      | inr n ↦ rw (n, has-without u b es ne)
+    ]
 
 lacks-without : (b : ℕ) (ys : List Entry) → has b (without b ys) ≡ false
 lacks-without b [] = refl
 lacks-without b (e ∷ es) =
     elim (cases-bool (eqb (e .task) b)) [
-      inl y ↦ rw y (lacks-without b es)
-    | inr n ↦ rw (n, lacks-without b es) (rw n) ]
+      | inl y ↦ rw y (lacks-without b es)
+      | inr n ↦ rw (n, lacks-without b es) (rw n)
+    ]
 
 code-without : (u b : ℕ) (ys : List Entry) → (u ≡ b → ⊥) → code-of u (without b ys) ≡ code-of u ys
 code-without u b [] ne = refl
 code-without u b (e ∷ es) ne =
     elim (cases-bool (eqb (e .task) b)) [
-      inl y ↦ let n : eqb (e .task) u ≡ false = ne-eqb (e .task) u (λ d. ne (sym d ∙ eqb-true (e .task) b y)) in rw (y, n) (code-without u b es ne)
-    | inr n ↦ rw n (elim (cases-bool (eqb (e .task) u)) [ inl v ↦ rw v | inr v ↦ rw v (code-without u b es ne) ]) ]
+      | inl y ↦ let n : eqb (e .task) u ≡ false = ne-eqb (e .task) u (λ d. ne (sym d ∙ eqb-true (e .task) b y)) in rw (y, n) (code-without u b es ne)
+      | inr n ↦ rw n (elim (cases-bool (eqb (e .task) u)) [ inl v ↦ rw v | inr v ↦ rw v (code-without u b es ne) ])
+    ]
 
 leads-ahead : (b : Entry) (t : ℕ) (ys : List Entry) → leads b ys ≡ true → has t ys ≡ true → (t ≡ b .task → ⊥) → ahead (b .code) (b .task) (code-of t ys) t ≡ true
 leads-ahead b t [] l h ne = absurd (true≢false (sym h))
 leads-ahead b t (e ∷ es) l h ne =
     let p = and-parts (eqb (e .task) (b .task) || ahead (b .code) (b .task) (e .code) (e .task)) (leads b es) l in
     elim (cases-bool (eqb (e .task) t)) [
-      inl y ↦
-        let d = eqb-true (e .task) t y in
-        elim (or-cases (eqb (e .task) (b .task)) (ahead (b .code) (b .task) (e .code) (e .task)) (p .0)) [
-          inl x ↦ absurd (ne (sym d ∙ eqb-true (e .task) (b .task) x))
-        | inr x ↦ rw y (subst (λ z. ahead (b .code) (b .task) (e .code) z ≡ true) d x) ]
-    | inr n ↦ rw n (leads-ahead b t es (p .1) (rw n at h) ne) ]
+      | inl y ↦
+          let d = eqb-true (e .task) t y in
+          elim (or-cases (eqb (e .task) (b .task)) (ahead (b .code) (b .task) (e .code) (e .task)) (p .0)) [
+            | inl x ↦ absurd (ne (sym d ∙ eqb-true (e .task) (b .task) x))
+            | inr x ↦ rw y (subst (λ z. ahead (b .code) (b .task) (e .code) z ≡ true) d x)
+          ]
+      | inr n ↦ rw n (leads-ahead b t es (p .1) (rw n at h) ne)
+    ]
 
 -- an open gate over first-come for m cores: xs stand in line below for resource 0, and ys in the gate
 pub record Sim (g : Gate FirstCome) (m : ℕ) (xs ys : List Entry) : Type 0 where
@@ -103,7 +108,8 @@ line-laws = record {
   admitting = first-admits;
   passing = first-passes;
   unadmitted = λ s r t c e z h. h .refused e refl;
-  unpassed = λ s r e z h. h .refused e refl }
+  unpassed = λ s r e z h. h .refused e refl;
+}
 
 module _ {g : Gate FirstCome} {m : ℕ} {xs ys : List Entry} (s : Sim g m xs ys) (w : proper-width m ≡ true) where
   pub is-open : (g .fresh && fit (first-meaning (g .lower))) ≡ true
@@ -127,7 +133,8 @@ module _ {g : Gate FirstCome} {m : ℕ} {xs ys : List Entry} (s : Sim g m xs ys)
         fresh = h .same ∙ s .fresh;
         below = line-admit t c (s .below) (b .0) k p room;
         marks = λ u. b .2 u;
-        codes = λ u e. absurd (true≢false (sym e)) }
+        codes = λ u e. absurd (true≢false (sym e));
+      }
 
   -- a task goes into the gate
   pub sim-gate : {a : Result (Unit {0}) OrderRefusal} {z : Gate FirstCome} (t c : ℕ) → GateAdmitted line-order g 0 t c a z → ltb t 64 ≡ true → has t xs ≡ false → has t ys ≡ false → length xs ≡ m → Sim z m xs (ys ++ (entry t c ∷ []))
@@ -138,13 +145,16 @@ module _ {g : Gate FirstCome} {m : ℕ} {xs ys : List Entry} (s : Sim g m xs ys)
         fresh = h .same ∙ s .fresh;
         below = rw (i .0) (s .below);
         marks = λ u. elim (cases-eq u t) [
-            inl d ↦ subst (λ x. marked (z .rows) 0 x ≡ has x (ys ++ (entry t c ∷ []))) (sym d) (e .mark ∙ sym (rw (has-push t ys (entry t c), q, eq-eqb t t refl)))
-          | inr ne ↦ e .marks 0 u (λ _ d. ne d) ∙ s .marks u ∙ sym (has-push u ys (entry t c) ∙ rw (ne-eqb t u (λ d. ne (sym d))) (or-never (has u ys))) ];
+          | inl d ↦ subst (λ x. marked (z .rows) 0 x ≡ has x (ys ++ (entry t c ∷ []))) (sym d) (e .mark ∙ sym (rw (has-push t ys (entry t c), q, eq-eqb t t refl)))
+          | inr ne ↦ e .marks 0 u (λ _ d. ne d) ∙ s .marks u ∙ sym (has-push u ys (entry t c) ∙ rw (ne-eqb t u (λ d. ne (sym d))) (or-never (has u ys)))
+        ];
         codes = λ u y. elim (cases-eq u t) [
-            inl d ↦ subst (λ x. noted (z .rows) 0 x ≡ code-of x (ys ++ (entry t c ∷ []))) (sym d) (e .code ∙ sym (code-last ys (entry t c) q))
+          | inl d ↦ subst (λ x. noted (z .rows) 0 x ≡ code-of x (ys ++ (entry t c ∷ []))) (sym d) (e .code ∙ sym (code-last ys (entry t c) q))
           | inr ne ↦
               let old : has u ys ≡ true = sym (or-never (has u ys)) ∙ (rw (has-push u ys (entry t c), ne-eqb t u (λ d. ne (sym d))) at y) in
-              e .codes 0 u (λ _ d. ne d) ∙ s .codes u old ∙ sym (code-push u ys (entry t c) old) ] }
+              e .codes 0 u (λ _ d. ne d) ∙ s .codes u old ∙ sym (code-push u ys (entry t c) old)
+        ];
+      }
 
 module _ {g : Gate FirstCome} {m : ℕ} {x : Entry} {xs ys : List Entry} (s : Sim g m (x ∷ xs) ys) (w : proper-width m ≡ true) {a : Result (Option ℕ) OrderRefusal} {z : Gate FirstCome} (h : GatePassed line-order g 0 a z) where
   first-held : first-meaning (g .lower) .holder 0 ≡ Some (x .task)
@@ -161,14 +171,16 @@ module _ {g : Gate FirstCome} {m : ℕ} {x : Entry} {xs ys : List Entry} (s : Si
   tail mid b p = record {
     width = p .width ∙ s .below .width;
     places = p .places ∙ s .below .places;
-    line = p .line (first-meaning mid .holder 0) (p .told ∙ pass-fine (first-meaning (g .lower)) 0 (x .task) (first-meaning mid .holder 0) (omega arith) first-held) ∙ ap (drop 1) (s .below .line) }
+    line = p .line (first-meaning mid .holder 0) (p .told ∙ pass-fine (first-meaning (g .lower)) 0 (x .task) (first-meaning mid .holder 0) (omega arith) first-held) ∙ ap (drop 1) (s .below .line);
+  }
 
   none-moves : ys ≡ [] → (mid : FirstCome) → Lined mid m m xs → Moves line-order g mid 0 z → Sim z m xs []
   none-moves e mid k (nobody out d marks) = record {
     fresh = h .same ∙ s .fresh;
     below = rw d k;
     marks = λ u. elim (cases-bool (marked (z .rows) 0 u)) [ inr n ↦ n | inl y ↦ absurd (true≢false (sym (marks u y) ∙ s .marks u ∙ ap (has u) e)) ];
-    codes = λ u y. absurd (true≢false (sym y)) }
+    codes = λ u y. absurd (true≢false (sym y));
+  }
   none-moves e mid k (moved {b = t} mv) = absurd (true≢false (sym (inside-parts (first-meaning (g .lower)) (marked (g .rows)) 0 t (mv .waits) .mark) ∙ s .marks t ∙ ap (has t) e))
 
   -- nobody waited in the gate
@@ -185,11 +197,12 @@ module _ {g : Gate FirstCome} {m : ℕ} {x : Entry} {xs ys : List Entry} (s : Si
         let i = inside-parts (first-meaning (g .lower)) (marked (g .rows)) 0 t (mv .waits) in
         let in-t : has t ys ≡ true = sym (s .marks t) ∙ i .mark in
         let same : t ≡ b = elim (cases-eq t b) [
-            inl e ↦ e
+          | inl e ↦ e
           | inr ne ↦
               let up = leads-ahead (entry b (code-of b ys)) t ys best in-t ne in
               let down : ahead (code-of b ys) b (code-of t ys) t ≡ false = rw (s .codes b waits, s .codes t in-t) at (mv .best b waits-b) in
-              absurd (true≢false (sym up ∙ down)) ] in
+              absurd (true≢false (sym up ∙ down))
+        ] in
         let joins : FirstAdmitted mid 0 b (code-of b ys) (mv .answer) (z .lower) = subst (λ u. FirstAdmitted mid 0 u (code-of u ys) (mv .answer) (z .lower)) same (subst (λ c. FirstAdmitted mid 0 t c (mv .answer) (z .lower)) (s .codes t in-t) (mv .joins)) in
         let taken : marked (z .rows) 0 b ≡ false = subst (λ u. marked (z .rows) 0 u ≡ false) same (mv .taken) in
         let out-tail : has b xs ≡ false = or-parts (eqb (x .task) b) (has b xs) out .1 in
@@ -197,13 +210,17 @@ module _ {g : Gate FirstCome} {m : ℕ} {x : Entry} {xs ys : List Entry} (s : Si
           fresh = h .same ∙ s .fresh;
           below = line-admit b (code-of b ys) k joins bk out-tail room;
           marks = λ u. elim (cases-eq u b) [
-              inl e ↦ subst (λ v. marked (z .rows) 0 v ≡ has v (without b ys)) (sym e) (taken ∙ sym (lacks-without b ys))
+            | inl e ↦ subst (λ v. marked (z .rows) 0 v ≡ has v (without b ys)) (sym e) (taken ∙ sym (lacks-without b ys))
             | inr ne ↦ elim (cases-eq u (x .task)) [
-                inl e ↦ subst (λ v. marked (z .rows) 0 v ≡ has v ys) (sym e) (mv .left (x .task) first-held ∙ sym gone) ∙ sym (has-without u b ys ne)
-              | inr d ↦ mv .marks u (λ e. d (some-same u (x .task) (sym e ∙ first-held))) (λ e. ne (e ∙ same)) ∙ s .marks u ∙ sym (has-without u b ys ne) ] ];
+              | inl e ↦ subst (λ v. marked (z .rows) 0 v ≡ has v ys) (sym e) (mv .left (x .task) first-held ∙ sym gone) ∙ sym (has-without u b ys ne)
+              | inr d ↦ mv .marks u (λ e. d (some-same u (x .task) (sym e ∙ first-held))) (λ e. ne (e ∙ same)) ∙ s .marks u ∙ sym (has-without u b ys ne)
+            ]
+          ];
           codes = λ u y. elim (cases-eq u b) [
-              inl e ↦ absurd (true≢false (sym y ∙ subst (λ v. has v (without b ys) ≡ false) (sym e) (lacks-without b ys)))
-            | inr ne ↦ mv .codes u ∙ s .codes u (sym (has-without u b ys ne) ∙ y) ∙ sym (code-without u b ys ne) ] }
+            | inl e ↦ absurd (true≢false (sym y ∙ subst (λ v. has v (without b ys) ≡ false) (sym e) (lacks-without b ys)))
+            | inr ne ↦ mv .codes u ∙ s .codes u (sym (has-without u b ys ne) ∙ y) ∙ sym (code-without u b ys ne)
+          ];
+        }
 
     -- the best-ranked of the gate went below
     pub sim-moved : Sim z m (xs ++ (entry b (code-of b ys) ∷ [])) (without b ys)
@@ -257,4 +274,5 @@ sim-new e w = record {
   fresh = e .fresh;
   below = line-new (e .width) (e .places ∙ rw w) (e .lines);
   marks = λ u. rw (e .rows) (fresh-mark u);
-  codes = λ u y. absurd (true≢false (sym y)) }
+  codes = λ u y. absurd (true≢false (sym y));
+}

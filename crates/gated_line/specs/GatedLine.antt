@@ -24,7 +24,8 @@ line-order = record {
   count = λ s. first-meaning s .count;
   covered = λ s. first-meaning s .covered;
   admitted = FirstAdmitted;
-  passed = FirstPassed }
+  passed = FirstPassed;
+}
 
 -- the gate over first-come, as an order of service
 abbrev pub gated-order : Ghosts (Gate FirstCome)
@@ -38,7 +39,8 @@ gated-order = record {
   count = λ s. gate-meaning line-order s .count;
   covered = λ s. gate-meaning line-order s .covered;
   admitted = GateAdmitted line-order;
-  passed = GatePassed line-order }
+  passed = GatePassed line-order;
+}
 
 -- a gate over first-come for m cores with m places, as it is made: nobody is in line or in the gate
 pub record Empty (m : ℕ) (g : Gate FirstCome) : Type 0 where

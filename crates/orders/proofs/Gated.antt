@@ -75,15 +75,16 @@ module _ (v : Meaning) (ok : Fit v) where
   pub bare : (r t : ℕ) → v .queued r t ≡ true → v .covered r t ≡ false
   bare r t q =
       elim (cases-bool (v .covered r t)) [
-        inr n ↦ n
-      | inl y ↦
-          let c = v .code r t in
-          let self : before v r c t t ≡ false = rw (q, ahead-self c t) in
-          let less = tally-less (before v r c t) (v .queued r) t 64 (ok .rules .within r t q .1) self q (λ k l h. and-parts (v .queued r k) (ahead (v .code r k) k c t) h .0) in
-          let cover = ok .rules .cover r t q y in
-          let room = ok .rules .room r in
-          let e = ok .exact in
-          absurd (omega arith) ]
+        | inr n ↦ n
+        | inl y ↦
+            let c = v .code r t in
+            let self : before v r c t t ≡ false = rw (q, ahead-self c t) in
+            let less = tally-less (before v r c t) (v .queued r) t 64 (ok .rules .within r t q .1) self q (λ k l h. and-parts (v .queued r k) (ahead (v .code r k) k c t) h .0) in
+            let cover = ok .rules .cover r t q y in
+            let room = ok .rules .room r in
+            let e = ok .exact in
+            absurd (omega arith)
+      ]
 
   pub full-held : (r : ℕ) → size v r ≡ v .width → v .holder r ≡ None → ⊥
   full-held r e n =
@@ -110,21 +111,24 @@ module _ (v : Meaning) (ok : Fit v) where
     some = λ r t h n. elim (or-cases (v .queued r t) (inside v f r t) h) [ inl q ↦ ok .rules .some r t q n | inr i ↦ full-held r (inside-parts v f r t i .full) n ];
     first = λ r t h. rw (ok .rules .held r t h) (ok .rules .first r t h);
     later = λ r t h c w. elim (cases-bool (v .queued r t)) [
-        inl q ↦ rw q (ok .rules .later r t q (bare r t q) w)
-      | inr o ↦ let b : behind v r (k r t) t ≡ false = rw o at c in let d = delayed r (k r t) t b in rw o (omega arith) ];
+      | inl q ↦ rw q (ok .rules .later r t q (bare r t q) w)
+      | inr o ↦ let b : behind v r (k r t) t ≡ false = rw o at c in let d = delayed r (k r t) t b in rw o (omega arith)
+    ];
     cover = λ r t h c.
-      let p = and-parts (not (v .queued r t)) (behind v r (k r t) t) c in
-      let o = not-true (v .queued r t) (p .0) in
-      let i = inside-parts v f r t (or-second (v .queued r t) (inside v f r t) o h) in
-      let m : size v r ≤ tally (before (gated v f k) r (k r t) t) 64 = tally-le (v .queued r) (before (gated v f k) r (k r t) t) 64 (λ u l q.
+        let p = and-parts (not (v .queued r t)) (behind v r (k r t) t) c in
+        let o = not-true (v .queued r t) (p .0) in
+        let i = inside-parts v f r t (or-second (v .queued r t) (inside v f r t) o h) in
+        let m : size v r ≤ tally (before (gated v f k) r (k r t) t) 64 = tally-le (v .queued r) (before (gated v f k) r (k r t) t) 64 (λ u l q.
         let a = every-at (λ u. not (v .queued r u) || ahead (v .code r u) u (k r t) t) 64 (p .1) u l in
         let b : ahead (v .code r u) u (k r t) t ≡ true = rw q at a in
         rw (q, b)) in
-      rw o (omega (arith, i .full));
+        rw o (omega (arith, i .full));
     bounded = λ r t h. elim (cases-bool (v .queued r t)) [
-        inl q ↦ rw q (omega (arith, ok .rules .bounded r t q))
+      | inl q ↦ rw q (omega (arith, ok .rules .bounded r t q))
       | inr o ↦
-          rw o (omega (arith, delay-most v (ok .rules) r (k r t) t)) ] }
+          rw o (omega (arith, delay-most v (ok .rules) r (k r t) t))
+    ];
+  }
 
 -- ---- what a step below leaves of the gate
 
@@ -146,9 +150,10 @@ module _ (v w : Meaning) (f f′ : ℕ → ℕ → Bool) (k k′ : ℕ → ℕ �
         queued = rw (e, kept-size v w q all, wide, m);
         code = λ h. cond-same (v .queued q u) (w .queued q u) (v .code q u) (w .code q u) (k q u) (k′ q u) e (all u .code) (λ o. c);
         count = λ h. cond-same (v .queued q u) (w .queued q u) (v .count q u) (w .count q u) _ _ e (all u .count)
-          (λ o. rw (far, most-same (against v q (k q u) u) (against w q (k′ q u) u) (v .count q) (w .count q) 64 (λ x l. same x) (λ x l y. all x .count (and-parts (v .queued q x) _ y .0))));
+            (λ o. rw (far, most-same (against v q (k q u) u) (against w q (k′ q u) u) (v .count q) (w .count q) 64 (λ x l. same x) (λ x l y. all x .count (and-parts (v .queued q x) _ y .0))));
         covered = λ h. rw (e, c) (ap (λ b. not (v .queued q u) && b) (every-same (λ x. not (v .queued q x) || ahead (v .code q x) x (k q u) u) (λ x. not (w .queued q x) || ahead (w .code q x) x (k q u) u) 64
-          (λ x l. either-same (v .queued q x) (w .queued q x) _ _ (all x .queued) (λ y. rw (all x .code y))))) }
+            (λ x l. either-same (v .queued q x) (w .queued q x) _ _ (all x .queued) (λ y. rw (all x .code y)))));
+      }
 
   -- a task joined below, where there was room
   pub joined-below : (r t c : ℕ) → size v r < v .width → Joined v r t c w → ((u : ℕ) → f′ r u ≡ false) → ((q u : ℕ) → (q ≡ r → ⊥) → f′ q u ≡ f q u) → ((q u : ℕ) → (q ≡ r → ⊥) → k′ q u ≡ k q u) → Joined (gated v f k) r t c (gated w f′ k′)
@@ -161,14 +166,16 @@ module _ (v w : Meaning) (f f′ : ℕ → ℕ → Bool) (k k′ : ℕ → ℕ �
         alone = λ z. j .alone (sym s ∙ z);
         behind = λ n. j .behind (λ z. n (s ∙ z));
         beside = λ u ne.
-          let b = j .beside u ne in
-          let in-v : gated v f k .queued r u ≡ true → v .queued r u ≡ true = λ h. sym (or-never (v .queued r u)) ∙ (rw (out u) at h) in
-          record {
-            queued = rw (clear u, out u, b .queued);
-            code = λ h. let y = in-v h in rw (b .queued, y) (b .code y);
-            count = λ h. let y = in-v h in rw (b .queued, y) (b .count y);
-            covered = λ h. let y = in-v h in rw (b .queued, y) };
-        apart = λ q ne. (j .apart q ne .0, λ u. kept-gated q (j .apart q ne .1) u (marks q u ne) (codes q u ne)) }
+            let b = j .beside u ne in
+            let in-v : gated v f k .queued r u ≡ true → v .queued r u ≡ true = λ h. sym (or-never (v .queued r u)) ∙ (rw (out u) at h) in
+            record {
+              queued = rw (clear u, out u, b .queued);
+              code = λ h. let y = in-v h in rw (b .queued, y) (b .code y);
+              count = λ h. let y = in-v h in rw (b .queued, y) (b .count y);
+              covered = λ h. let y = in-v h in rw (b .queued, y);
+            };
+        apart = λ q ne. (j .apart q ne .0, λ u. kept-gated q (j .apart q ne .1) u (marks q u ne) (codes q u ne));
+      }
 
 -- a task entered the gate
 pub joined-gate : (v : Meaning) (f f′ : ℕ → ℕ → Bool) (k k′ : ℕ → ℕ → ℕ) (r t c : ℕ) → 1 ≤ v .width → size v r ≡ v .width → v .queued r t ≡ false → f′ r t ≡ true → k′ r t ≡ c → ((q u : ℕ) → (q ≡ r → u ≡ t → ⊥) → f′ q u ≡ f q u) → ((q u : ℕ) → (q ≡ r → u ≡ t → ⊥) → k′ q u ≡ k q u) → Joined (gated v f k) r t c (gated v f′ k′)
@@ -181,7 +188,8 @@ joined-gate v f f′ k k′ r t c some full out mark code marks codes =
       alone = λ z. absurd (omega arith);
       behind = λ n. refl;
       beside = λ u ne. kept-gated v v f f′ k k′ refl refl r (kept-itself v r) u (marks r u (λ _ e. ne e)) (codes r u (λ _ e. ne e));
-      apart = λ q ne. (refl, λ u. kept-gated v v f f′ k k′ refl refl q (kept-itself v q) u (marks q u (λ e _. ne e)) (codes q u (λ e _. ne e))) }
+      apart = λ q ne. (refl, λ u. kept-gated v v f f′ k k′ refl refl q (kept-itself v q) u (marks q u (λ e _. ne e)) (codes q u (λ e _. ne e)));
+    }
 
 -- ---- a pass
 
@@ -210,19 +218,21 @@ left-nobody v w f f′ k k′ ok wide far r h held l out marks codes =
       codes = λ t q. let y = in-w t q in rw (y, stayed v w r l t y) (l .codes t y);
       falls = λ t q. let y = in-w t q in rw (y, stayed v w r l t y) (l .falls t y);
       nears = λ t q c. let y = in-w t q in let b = stayed v w r l t y in rw (y, b) (l .nears t y (bare v ok r t b));
-      apart = λ q ne. (l .apart q ne .0, λ u. kept-gated v w f f′ k k′ wide far q (l .apart q ne .1) u (marks q u ne) (codes q u ne)) }
+      apart = λ q ne. (l .apart q ne .0, λ u. kept-gated v w f f′ k k′ wide far q (l .apart q ne .1) u (marks q u ne) (codes q u ne));
+    }
 
 kept-chain : (v m w : Meaning) (q u : ℕ) → Kept v m q u → Kept m w q u → Kept v w q u
 kept-chain v m w q u a b = record {
   queued = b .queued ∙ a .queued;
   code = λ h. b .code (a .queued ∙ h) ∙ a .code h;
   count = λ h. b .count (a .queued ∙ h) ∙ a .count h;
-  covered = λ h. b .covered (a .queued ∙ h) ∙ a .covered h }
+  covered = λ h. b .covered (a .queued ∙ h) ∙ a .covered h;
+}
 
 -- the best of the gate, b, went below: v before, m after the pass below, w at the end
 module _ (v m w : Meaning) (f f′ : ℕ → ℕ → Bool) (k k′ : ℕ → ℕ → ℕ) (ok : Fit v) (rules : Rules w) (wide : w .width ≡ v .width) (far : w .reach ≡ v .reach)
-  (r h b : ℕ) (held : v .holder r ≡ Some h) (l : Left v r m) (waits : Inside v f r b) (best : (u : ℕ) → inside v f r u ≡ true → ahead (k r u) u (k r b) b ≡ false)
-  (bk : b < 64) (j : Joined m r b (k r b) w) (left : f′ r h ≡ false) (marks : (u : ℕ) → (v .holder r ≡ Some u → ⊥) → (u ≡ b → ⊥) → f′ r u ≡ f r u) (codes : (u : ℕ) → k′ r u ≡ k r u) where
+    (r h b : ℕ) (held : v .holder r ≡ Some h) (l : Left v r m) (waits : Inside v f r b) (best : (u : ℕ) → inside v f r u ≡ true → ahead (k r u) u (k r b) b ≡ false)
+    (bk : b < 64) (j : Joined m r b (k r b) w) (left : f′ r h ≡ false) (marks : (u : ℕ) → (v .holder r ≡ Some u → ⊥) → (u ≡ b → ⊥) → f′ r u ≡ f r u) (codes : (u : ℕ) → k′ r u ≡ k r u) where
   fresh : m .queued r b ≡ false
   fresh = l .rest b (λ e. both-ways (v .queued r b) (waits .out) (ok .rules .held r b e)) ∙ waits .out
 
@@ -263,10 +273,10 @@ module _ (v m w : Meaning) (f f′ : ℕ → ℕ → Bool) (k k′ : ℕ → ℕ
   shorter t ne i = most-le (against w r (k r t) t) (w .count r) 64 (delay v r (k r t) t - 1) (λ u lt a.
       let p = and-parts (w .queued r u) (not (ahead (w .code r u) u (k r t) t)) a in
       let un : u ≡ b → ⊥ = λ e.
-        (let up : ahead (k r b) b (k r t) t ≡ true = ahead-total (k r t) t (k r b) b ne (best t i) in
-        let c : w .code r u ≡ k r b = ap (w .code r) e ∙ j .code in
-        let x : ahead (w .code r u) u (k r t) t ≡ true = rw (c, e) up in
-        both-ways (ahead (w .code r u) u (k r t) t) (not-true _ (p .1)) x) in
+      (let up : ahead (k r b) b (k r t) t ≡ true = ahead-total (k r t) t (k r b) b ne (best t i) in
+      let c : w .code r u ≡ k r b = ap (w .code r) e ∙ j .code in
+      let x : ahead (w .code r u) u (k r t) t ≡ true = rw (c, e) up in
+      both-ways (ahead (w .code r u) u (k r t) t) (not-true _ (p .1)) x) in
       let y = below u un (p .0) in
       let g : against v r (k r t) t u ≡ true = rw (y .1) (rw (y .2) at (p .1)) in
       let s = most-at (against v r (k r t) t) (v .count r) 64 u lt g in
@@ -284,39 +294,45 @@ module _ (v m w : Meaning) (f f′ : ℕ → ℕ → Bool) (k k′ : ℕ → ℕ
   nearer : (t : ℕ) → gated w f′ k′ .queued r t ≡ true → Nearer t
   nearer t q =
       elim (cases-eq t b) [
-        inl e ↦ subst Nearer (sym e) nearer-b
-      | inr ne ↦ elim (cases-bool (w .queued r t)) [
-          inl y ↦ let d = below t ne y in (rw (y, d .1) (omega (arith, d .3)), λ c. rw (y, d .1) (d .3))
-        | inr o ↦
-            let i = waited t o (or-second (w .queued r t) (inside w f′ r t) o q) in
-            let v-out = inside-parts v f r t (i .1) .out in
-            let s = shorter t ne (i .1) in
-            (rw (o, v-out, codes t, far) (omega arith), λ c. let d = delayed v ok r (k r t) t (rw v-out at c) in rw (o, v-out, codes t, far) (omega arith)) ] ]
+        | inl e ↦ subst Nearer (sym e) nearer-b
+        | inr ne ↦ elim (cases-bool (w .queued r t)) [
+          | inl y ↦ let d = below t ne y in (rw (y, d .1) (omega (arith, d .3)), λ c. rw (y, d .1) (d .3))
+          | inr o ↦
+              let i = waited t o (or-second (w .queued r t) (inside w f′ r t) o q) in
+              let v-out = inside-parts v f r t (i .1) .out in
+              let s = shorter t ne (i .1) in
+              (rw (o, v-out, codes t, far) (omega arith), λ c. let d = delayed v ok r (k r t) t (rw v-out at c) in rw (o, v-out, codes t, far) (omega arith))
+        ]
+      ]
 
   rested : (t : ℕ) → (v .holder r ≡ Some t → ⊥) → gated w f′ k′ .queued r t ≡ gated v f k .queued r t
   rested t n =
       elim (cases-eq t b) [
-        inl e ↦ subst (λ x. gated w f′ k′ .queued r x ≡ gated v f k .queued r x) (sym e) (or-left (w .queued r b) (inside w f′ r b) (j .queued) ∙ sym (or-right (v .queued r b) (inside v f r b) (inside-from v f r b waits)))
-      | inr ne ↦ ap (λ x. x || inside w f′ r t) (outside t n ne) ∙ ap (λ x. v .queued r t || x) (stays t n ne) ]
+        | inl e ↦ subst (λ x. gated w f′ k′ .queued r x ≡ gated v f k .queued r x) (sym e) (or-left (w .queued r b) (inside w f′ r b) (j .queued) ∙ sym (or-right (v .queued r b) (inside v f r b) (inside-from v f r b waits)))
+        | inr ne ↦ ap (λ x. x || inside w f′ r t) (outside t n ne) ∙ ap (λ x. v .queued r t || x) (stays t n ne)
+      ]
 
   coded : (t : ℕ) → gated w f′ k′ .queued r t ≡ true → gated w f′ k′ .code r t ≡ gated v f k .code r t
   coded t q =
       elim (cases-eq t b) [
-        inl e ↦ subst (λ x. gated w f′ k′ .code r x ≡ gated v f k .code r x) (sym e) (rw (j .queued, waits .out) (j .code))
-      | inr ne ↦ elim (cases-bool (w .queued r t)) [
-          inl y ↦ let d = below t ne y in rw (y, d .1) (d .2)
-        | inr o ↦
-            let i = waited t o (or-second (w .queued r t) (inside w f′ r t) o q) in
-            rw (o, inside-parts v f r t (i .1) .out) (codes t) ] ]
+        | inl e ↦ subst (λ x. gated w f′ k′ .code r x ≡ gated v f k .code r x) (sym e) (rw (j .queued, waits .out) (j .code))
+        | inr ne ↦ elim (cases-bool (w .queued r t)) [
+          | inl y ↦ let d = below t ne y in rw (y, d .1) (d .2)
+          | inr o ↦
+              let i = waited t o (or-second (w .queued r t) (inside w f′ r t) o q) in
+              rw (o, inside-parts v f r t (i .1) .out) (codes t)
+        ]
+      ]
 
   pub left-moved : ((q u : ℕ) → (q ≡ r → ⊥) → f′ q u ≡ f q u) → ((q u : ℕ) → (q ≡ r → ⊥) → k′ q u ≡ k q u) → Left (gated v f k) r (gated w f′ k′)
   left-moved others notes = record {
     gone = λ t e.
-      (let ne : t ≡ b → ⊥ = λ s. both-ways (v .queued r b) (waits .out) (subst (λ x. v .queued r x ≡ true) s (ok .rules .held r t e)) in
-      let o : w .queued r t ≡ false = j .beside t ne .queued ∙ l .gone t e in
-      rw (o, gone-mark t e));
+        (let ne : t ≡ b → ⊥ = λ s. both-ways (v .queued r b) (waits .out) (subst (λ x. v .queued r x ≡ true) s (ok .rules .held r t e)) in
+        let o : w .queued r t ≡ false = j .beside t ne .queued ∙ l .gone t e in
+        rw (o, gone-mark t e));
     rest = rested;
     codes = coded;
     falls = λ t q. nearer t q .0;
     nears = λ t q c. nearer t q .1 c;
-    apart = λ q ne. (j .apart q ne .0 ∙ l .apart q ne .0, λ u. kept-gated v w f f′ k k′ wide far q (λ x. kept-chain v m w q x (l .apart q ne .1 x) (j .apart q ne .1 x)) u (others q u ne) (notes q u ne)) }
+    apart = λ q ne. (j .apart q ne .0 ∙ l .apart q ne .0, λ u. kept-gated v w f f′ k k′ wide far q (λ x. kept-chain v m w q x (l .apart q ne .1 x) (j .apart q ne .1 x)) u (others q u ne) (notes q u ne));
+  }

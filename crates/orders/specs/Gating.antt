@@ -41,7 +41,8 @@ gated v f k = record {
   holder = v .holder;
   code = λ r t. cond (v .queued r t) (v .code r t) (k r t);
   count = λ r t. cond (v .queued r t) (v .count r t) (delay v r (k r t) t + v .reach);
-  covered = λ r t. not (v .queued r t) && behind v r (k r t) t }
+  covered = λ r t. not (v .queued r t) && behind v r (k r t) t;
+}
 
 -- a closed gate: nobody is queued, and nobody can be
 abbrev pub shut : ℕ → Meaning
@@ -53,4 +54,5 @@ shut m = record {
   holder = λ r. None;
   code = λ r t. 0;
   count = λ r t. 0;
-  covered = λ r t. false }
+  covered = λ r t. false;
+}

@@ -91,52 +91,97 @@ granted (Some h) t r = cond (eqb h t) (Holding r) (Waiting r)
 -- the state left by an arrival, a request, a release, the end of a job, a tick
 abbrev pub arrive-state : {S D : Type 0} → Kernel S D → State S → ℕ → D → State S
 arrive-state k s t d = record {
-  now = s .now; jobs = record { state = put (s .jobs .state) t Ready; code = put (s .jobs .code) t (k .key d (s .now)) };
-  resource = s .resource; serial = s .serial; told = s .told; lost = s .lost; used = s .used; longest = s .longest; order = s .order }
+  now = s .now;
+  jobs = record { state = put (s .jobs .state) t Ready; code = put (s .jobs .code) t (k .key d (s .now)) };
+  resource = s .resource;
+  serial = s .serial;
+  told = s .told;
+  lost = s .lost;
+  used = s .used;
+  longest = s .longest;
+  order = s .order;
+}
 
 abbrev pub request-state : {S D : Type 0} → Kernel S D → State S → ℕ → ℕ → S → State S
 request-state k s t r z = record {
-  now = s .now; jobs = record { state = put (s .jobs .state) t (granted (k .service .holder z r) t r); code = s .jobs .code };
-  resource = put (s .resource) t r; serial = put (s .serial) t (suc (s .serial t)); told = put (s .told) t (k .service .count z r t); lost = put (s .lost) t 0;
-  used = s .used; longest = s .longest; order = z }
+  now = s .now;
+  jobs = record { state = put (s .jobs .state) t (granted (k .service .holder z r) t r); code = s .jobs .code };
+  resource = put (s .resource) t r;
+  serial = put (s .serial) t (suc (s .serial t));
+  told = put (s .told) t (k .service .count z r t);
+  lost = put (s .lost) t 0;
+  used = s .used;
+  longest = s .longest;
+  order = z;
+}
 
 abbrev pub release-state : {S : Type 0} → State S → ℕ → ℕ → Option ℕ → S → State S
 release-state s t r n z = record {
-  now = s .now; jobs = record { state = hand (put (s .jobs .state) t Ready) n (Holding r); code = s .jobs .code };
-  resource = s .resource; serial = s .serial; told = s .told; lost = s .lost; used = put (s .used) r 0; longest = s .longest; order = z }
+  now = s .now;
+  jobs = record { state = hand (put (s .jobs .state) t Ready) n (Holding r); code = s .jobs .code };
+  resource = s .resource;
+  serial = s .serial;
+  told = s .told;
+  lost = s .lost;
+  used = put (s .used) r 0;
+  longest = s .longest;
+  order = z;
+}
 
 abbrev pub finish-state : {S : Type 0} → State S → ℕ → State S
 finish-state s t = record {
-  now = s .now; jobs = record { state = put (s .jobs .state) t Idle; code = s .jobs .code };
-  resource = s .resource; serial = s .serial; told = s .told; lost = s .lost; used = s .used; longest = s .longest; order = s .order }
+  now = s .now;
+  jobs = record { state = put (s .jobs .state) t Idle; code = s .jobs .code };
+  resource = s .resource;
+  serial = s .serial;
+  told = s .told;
+  lost = s .lost;
+  used = s .used;
+  longest = s .longest;
+  order = s .order;
+}
 
 abbrev pub tick-state : {S D : Type 0} → Kernel S D → State S → State S
 tick-state k s = record {
-  now = suc (s .now); jobs = s .jobs; resource = s .resource; serial = s .serial; told = s .told;
+  now = suc (s .now);
+  jobs = s .jobs;
+  resource = s .resource;
+  serial = s .serial;
+  told = s .told;
   lost = λ t. cond (blocked (s .jobs) (k .facts .cores) t) (suc (s .lost t)) (s .lost t);
   used = λ r. cond (busy (s .jobs) (k .facts .cores) r) (suc (s .used r)) (s .used r);
   longest = λ r. cond (busy (s .jobs) (k .facts .cores) r) (max (s .longest r) (suc (s .used r))) (s .longest r);
-  order = s .order }
+  order = s .order;
+}
 
 -- what one call does: from a state, by a call with its answer, to a state
 pub data Step {S D : Type 0} (k : Kernel S D) : State S → Event D → State S → Type 0 where
   refuses : {s : State S} {c : Call D} {e : Refusal} → refusal k s c ≡ Some e → Step k s (Event.refused c e) s
   keeps-out : {s : State S} {t r : ℕ} {word : OrderRefusal} {z : S} → refusal k s (Request t r) ≡ None →
-    k .service .admitted (s .order) r t (s .jobs .code t) (Err word) z → Step k s (Event.refused (Request t r) (Order word)) s
+      k .service .admitted (s .order) r t (s .jobs .code t) (Err word) z → Step k s (Event.refused (Request t r) (Order word)) s
   keeps-in : {s : State S} {t r : ℕ} {word : OrderRefusal} {z : S} → refusal k s (Release t) ≡ None → s .jobs .state t ≡ Holding r →
-    k .service .passed (s .order) r (Err word) z → Step k s (Event.refused (Release t) (Order word)) s
+      k .service .passed (s .order) r (Err word) z → Step k s (Event.refused (Release t) (Order word)) s
   arrives : {s : State S} {t : ℕ} {d : D} → refusal k s (Arrive t d) ≡ None → Step k s (Event.arrived t d) (arrive-state k s t d)
   requests : {s : State S} {t r : ℕ} {z : S} → refusal k s (Request t r) ≡ None →
-    k .service .admitted (s .order) r t (s .jobs .code t) (Ok tt) z → Step k s (Event.requested t r (k .service .count z r t)) (request-state k s t r z)
+      k .service .admitted (s .order) r t (s .jobs .code t) (Ok tt) z → Step k s (Event.requested t r (k .service .count z r t)) (request-state k s t r z)
   releases : {s : State S} {t r : ℕ} {n : Option ℕ} {z : S} → refusal k s (Release t) ≡ None → s .jobs .state t ≡ Holding r →
-    k .service .passed (s .order) r (Ok n) z → Step k s (Event.released t n) (release-state s t r n z)
+      k .service .passed (s .order) r (Ok n) z → Step k s (Event.released t n) (release-state s t r n z)
   finishes : {s : State S} {t : ℕ} → refusal k s (Finish t) ≡ None → Step k s (Event.finished t) (finish-state s t)
   goes-on : {s : State S} → refusal k s Tick ≡ None → Step k s Event.ticked (tick-state k s)
 
 -- every task idle and every number 0
 abbrev pub at-start : {S : Type 0} → S → State S
-at-start o = record { now = 0; jobs = record { state = λ t. Idle; code = λ t. 0 };
-  resource = λ t. 0; serial = λ t. 0; told = λ t. 0; lost = λ t. 0; used = λ r. 0; longest = λ r. 0; order = o }
+at-start o = record {
+  now = 0;
+  jobs = record { state = λ t. Idle; code = λ t. 0 };
+  resource = λ t. 0;
+  serial = λ t. 0;
+  told = λ t. 0;
+  lost = λ t. 0;
+  used = λ r. 0;
+  longest = λ r. 0;
+  order = o;
+}
 
 -- a start that check accepts
 pub record Fresh {S D : Type 0} (k : Kernel S D) (s : State S) : Type 0 where

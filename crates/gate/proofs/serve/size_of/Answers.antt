@@ -19,5 +19,6 @@ loop-t-again g c =
     let q = meaning (g .L·Order) (c .args .lower .now) .queued (c .args .resource) in
     let t = tally-step q (c .loop-t .t) in
     elim (c .if-queued .came) [
-      then-queued w ↦ let e : cond {A = ℕ} (q (c .loop-t .t)) 1 0 ≡ 1 = cond-true _ _ _ (sym (c .queued .ensures) ∙ w .if-queued .taken) in omega (arith, w .n-is)
-    | else-queued w ↦ let e : cond {A = ℕ} (q (c .loop-t .t)) 1 0 ≡ 0 = cond-false _ _ _ (sym (c .queued .ensures) ∙ w .if-queued .left) in omega (arith, w .n-is) ]
+      | then-queued w ↦ let e : cond {A = ℕ} (q (c .loop-t .t)) 1 0 ≡ 1 = cond-true _ _ _ (sym (c .queued .ensures) ∙ w .if-queued .taken) in omega (arith, w .n-is)
+      | else-queued w ↦ let e : cond {A = ℕ} (q (c .loop-t .t)) 1 0 ≡ 0 = cond-false _ _ _ (sym (c .queued .ensures) ∙ w .if-queued .left) in omega (arith, w .n-is)
+    ]

@@ -14,4 +14,5 @@ returns c =
       width = g .width ∙ n .width;
       places = g .places ∙ ap (λ b. cond b 64 0) (made-open l m (n .width) (n .places) (n .lines));
       reach = g .reach ∙ made-reach l m (n .width) (n .places) (n .lines);
-      nobody = g .empty }
+      nobody = g .empty;
+    }

@@ -19,4 +19,5 @@ returns g c =
       width = same-width o (record { lower = l; fresh = fresh; rows = fresh-rows });
       places = new-places o l fresh e;
       reach = new-reach o l fresh e;
-      empty = new-empty o laws l fresh e }
+      empty = new-empty o laws l fresh e;
+    }
