@@ -11,6 +11,7 @@ use crate::gate::Gate;
 use crate::row::Row;
 use orders::Order;
 use orders::OrderRefusal;
+use orders::nobody_queued;
 
 // Rank: the smaller code is ahead, and of equal codes the smaller task number.
 fn ahead(code: u64, task: u32, other: u64, rival: u32) -> bool
@@ -86,18 +87,6 @@ fn behind<L: Order>(lower: &L, resource: u32, code: u64, task: u32) -> bool
     true
 }
 
-// Whether nobody is queued anywhere below.
-fn nobody<L: Order>(lower: &L) -> bool
-    ensures { λ a. ⌜ a ≡ idle (meaning L·Order (now (lower .entry))) ⌝ }
-{
-    for r in 0..32u32 {
-        if lower.holder(r).is_some() {
-            return false;
-        }
-    }
-    true
-}
-
 impl<L: Order> Gate<L> {
     // A gate before `lower`. It is open where `lower` has nobody queued, a width
     // from 1 to 16, as many places, and a reach such that the gate's fits 16 bits.
@@ -110,7 +99,7 @@ impl<L: Order> Gate<L> {
         ensures reach { λ s. ⌜ gate-meaning L·Order s .reach ≡ cond (idle (meaning L·Order lower) && fit (meaning L·Order lower)) (2 * L·Order .reach lower + 1) 0 ⌝ }
         ensures empty { λ s. ⌜ ((r t : ℕ) → gate-meaning L·Order s .queued r t ≡ false) ⌝ }
     {
-        let fresh = nobody(&lower);
+        let fresh = nobody_queued(&lower);
         Gate::made(lower, fresh)
     }
 

@@ -1,0 +1,21 @@
+// The records of a kernel for up to 64 tasks and 32 resources, and beside them
+// which tasks run and which are blocked.
+
+mod board;
+mod changes;
+mod demand;
+mod event;
+mod events;
+mod number;
+mod questions;
+mod record;
+mod settle;
+mod step;
+mod tick;
+
+pub use board::Board;
+pub use event::TaskEvent;
+pub use number::ResourceNo;
+pub use number::TaskNo;
+pub use record::ResourceRecord;
+pub use record::TaskRecord;
