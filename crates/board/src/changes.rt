@@ -18,7 +18,7 @@ use crate::tick::tick_tasks;
 use jobs::TaskState;
 
 impl Board {
-    // A board for some cores on which every task is idle and every number 0.
+    // A board for some cores, with no job on it and nothing counted yet.
     pub fn new(cores: u32) -> Board
         ensures { λ b. ⌜ New cores b ⌝ }
     {

@@ -154,24 +154,6 @@ module _ {L : Type 0} (o : Ghosts L) (laws : Lawful o) (s : Gate L) where
   held-known r h e = let m = open-held r h e in laws .rules (s .lower) .within r h (laws .rules (s .lower) .held r h (m .1)) .1
 
   module _ (r h : ℕ) (rk : r < 32) (held : gate-meaning o s .holder r ≡ Some h) (b : Result (Option ℕ) OrderRefusal) (mid : L) (p : o .passed (s .lower) r b mid) where
-    pub nobody-pass : (one : Row) (n : Option ℕ) → r < length (s .rows) → Best low (s .rows) r 64 None → getD (one .waits) h false ≡ false → ((u : ℕ) → (u ≡ h → ⊥) → getD (one .waits) u false ≡ getD (getD (s .rows) r no-row .waits) u false) → n ≡ gate-meaning o (after mid (set (s .rows) r one)) .holder r → GatePassed o s r (Ok n) (after mid (set (s .rows) r one))
-    nobody-pass one n long none m1 n1 e = record {
-      told = ap Ok e ∙ sym (pass-fine (gate-meaning o s) r h (gate-meaning o (after mid (set (s .rows) r one)) .holder r) rk held);
-      refused = λ x y. (let z : _≡_ {A = ℕ} 0 1 = cc in absurd (omega arith));
-      same = refl;
-      left = λ k x. (
-        mid,
-        b,
-        p,
-        nobody (λ u. elim (cases-bool (inside low (marked (s .rows)) r u)) [ inr n ↦ n | inl y ↦ none u (marked-bound (s .rows) r u (inside-parts low (marked (s .rows)) r u y .mark) .1) ]) refl
-            (λ u y. elim (cases-eq u h) [
-              | inl d ↦ absurd (true≢false (sym y ∙ unmarked-set (s .rows) r one long u (subst (λ x. getD (one .waits) x false ≡ false) (sym d) m1)))
-              | inr ne ↦ sym (kept-mark (s .rows) r one long u (n1 u ne)) ∙ y
-            ]),
-        beside-set (s .rows) r one long,
-      );
-    }
-
     pub moved-pass : (t : ℕ) (one two : Row) (k : ℕ) (a : Result (Unit {0}) OrderRefusal) (z : L) (n : Option ℕ) → r < length (s .rows) → Best low (s .rows) r 64 (Some t)
         → getD (one .waits) h false ≡ false → ((u : ℕ) → (u ≡ h → ⊥) → getD (one .waits) u false ≡ getD (getD (s .rows) r no-row .waits) u false) → one .codes ≡ getD (s .rows) r no-row .codes
         → getD (two .waits) t false ≡ false → ((u : ℕ) → (u ≡ t → ⊥) → getD (two .waits) u false ≡ getD (getD (set (s .rows) r one) r no-row .waits) u false) → two .codes ≡ getD (set (s .rows) r one) r no-row .codes

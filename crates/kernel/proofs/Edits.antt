@@ -15,34 +15,52 @@ use Rattle.board.specs.declared.board.Board.{Board}
 use Rattle.board.specs.declared.record.TaskRecord.{TaskRecord}
 use Rattle.board.specs.declared.record.ResourceRecord.{ResourceRecord}
 use Rattle.board.specs.Boards.{blank, unheld, jobs-of, begun, asked, turned, ticked, ticked-hold, begun-hold}
-use Rattle.board.specs.Calls.{row, hold, New, Put, PutHold, Ticked}
+use Rattle.board.specs.Calls.{row, hold, Put, PutHold, Ticked}
 use Rattle.runs.specs.Histories.{put, hand}
-use Rattle.runs.specs.Steps.{Kernel, State, granted, arrive-state, request-state, release-state, tick-state, at-start}
+use Rattle.runs.specs.Steps.{Kernel, State, granted, arrive-state, request-state, release-state, tick-state}
 use Rattle.kernel.specs.Views.{view, HandedOver}
 
 -- the state s with the task t in the state p
 abbrev pub turned-state : {S : Type 0} → State S → ℕ → TaskState → State S
 turned-state s t p = record {
-  now = s .now; jobs = record { state = put (s .jobs .state) t p; code = s .jobs .code };
-  resource = s .resource; serial = s .serial; told = s .told; lost = s .lost; used = s .used; longest = s .longest; order = s .order }
+  now = s .now;
+  jobs = record { state = put (s .jobs .state) t p; code = s .jobs .code };
+  resource = s .resource;
+  serial = s .serial;
+  told = s .told;
+  lost = s .lost;
+  used = s .used;
+  longest = s .longest;
+  order = s .order;
+}
 
 -- the state s with no ticks used in the present hold of r
 abbrev pub freed-state : {S : Type 0} → State S → ℕ → State S
 freed-state s r = record {
-  now = s .now; jobs = s .jobs; resource = s .resource; serial = s .serial; told = s .told; lost = s .lost;
-  used = put (s .used) r 0; longest = s .longest; order = s .order }
+  now = s .now;
+  jobs = s .jobs;
+  resource = s .resource;
+  serial = s .serial;
+  told = s .told;
+  lost = s .lost;
+  used = put (s .used) r 0;
+  longest = s .longest;
+  order = s .order;
+}
 
 -- a field of records of which one became x
 module _ {X A : Type 0} (field : X → A) (f g : ℕ → X) (t : ℕ) (x : X) (same : (k : ℕ) → g k ≡ cond (eqb k t) x (f k)) where
   pub edit : (λ (k : ℕ). field (g k)) ≡ put (λ k. field (f k)) t (field x)
   edit = fun-ext (λ k. elim (cases-eq k t) [
-      inl e ↦ rw (same k, eq-eqb k t e)
-    | inr e ↦ rw (same k, ne-eqb k t e) ])
+    | inl e ↦ rw (same k, eq-eqb k t e)
+    | inr e ↦ rw (same k, ne-eqb k t e)
+  ])
 
   pub keep : field x ≡ field (f t) → _≡_ {A = ℕ → A} (λ k. field (g k)) (λ k. field (f k))
   keep eq = fun-ext (λ k. elim (cases-eq k t) [
-      inl e ↦ rw (same k, eq-eqb k t e) (eq ∙ ap (λ n. field (f n)) (sym e))
-    | inr e ↦ rw (same k, ne-eqb k t e) ])
+    | inl e ↦ rw (same k, eq-eqb k t e) (eq ∙ ap (λ n. field (f n)) (sym e))
+    | inr e ↦ rw (same k, ne-eqb k t e)
+  ])
 
 module _ (b z : Board) (t : ℕ) (x : TaskRecord) (w : Put b t x z) where
   held-same : {A : Type 0} (field : ResourceRecord → A) → _≡_ {A = ℕ → A} (λ r. field (hold z r)) (λ r. field (hold b r))
@@ -54,14 +72,16 @@ module _ (b z : Board) (t : ℕ) (x : TaskRecord) (w : Put b t x z) where
     now = w .now i;
     jobs = record {
       state = (edit (λ y. y .state) (row b) (row z) t x (w .rows) ∙ ap (λ y. put (jobs-of (b .rows) .state) t (y .state)) e) i;
-      code = keep (λ y. y .code) (row b) (row z) t x (w .rows) (ap (λ y. y .code) e) i };
+      code = keep (λ y. y .code) (row b) (row z) t x (w .rows) (ap (λ y. y .code) e) i;
+    };
     resource = keep (λ y. y .resource) (row b) (row z) t x (w .rows) (ap (λ y. y .resource) e) i;
     serial = keep (λ y. y .serial) (row b) (row z) t x (w .rows) (ap (λ y. y .serial) e) i;
     told = keep (λ y. y .told) (row b) (row z) t x (w .rows) (ap (λ y. y .told) e) i;
     lost = keep (λ y. y .blocked) (row b) (row z) t x (w .rows) (ap (λ y. y .blocked) e) i;
     used = held-same (λ y. y .used) i;
     longest = held-same (λ y. y .longest) i;
-    order = o }
+    order = o;
+  }
 
   -- a job arrived
   pub begun-view : {S D : Type 0} (k : Kernel S D) (o : S) (d : D) (c : ℕ) → x ≡ begun (row b t) c → c ≡ k .key d (b .now) → view z o ≡ arrive-state k (view b o) t d
@@ -69,14 +89,16 @@ module _ (b z : Board) (t : ℕ) (x : TaskRecord) (w : Put b t x z) where
     now = w .now i;
     jobs = record {
       state = (edit (λ y. y .state) (row b) (row z) t x (w .rows) ∙ ap (λ y. put (jobs-of (b .rows) .state) t (y .state)) e) i;
-      code = (edit (λ y. y .code) (row b) (row z) t x (w .rows) ∙ ap (λ n. put (jobs-of (b .rows) .code) t n) (ap (λ y. y .code) e ∙ q)) i };
+      code = (edit (λ y. y .code) (row b) (row z) t x (w .rows) ∙ ap (λ n. put (jobs-of (b .rows) .code) t n) (ap (λ y. y .code) e ∙ q)) i;
+    };
     resource = keep (λ y. y .resource) (row b) (row z) t x (w .rows) (ap (λ y. y .resource) e) i;
     serial = keep (λ y. y .serial) (row b) (row z) t x (w .rows) (ap (λ y. y .serial) e) i;
     told = keep (λ y. y .told) (row b) (row z) t x (w .rows) (ap (λ y. y .told) e) i;
     lost = keep (λ y. y .blocked) (row b) (row z) t x (w .rows) (ap (λ y. y .blocked) e) i;
     used = held-same (λ y. y .used) i;
     longest = held-same (λ y. y .longest) i;
-    order = o }
+    order = o;
+  }
 
   -- a request was admitted, which left the order q
   pub asked-view : {S D : Type 0} (k : Kernel S D) (o q : S) (r n : ℕ) (s : TaskState) → x ≡ asked (row b t) s r (suc (row b t .serial)) n → s ≡ granted (k .service .holder q r) t r → n ≡ k .service .count q r t → view z q ≡ request-state k (view b o) t r q
@@ -84,14 +106,16 @@ module _ (b z : Board) (t : ℕ) (x : TaskRecord) (w : Put b t x z) where
     now = w .now i;
     jobs = record {
       state = (edit (λ y. y .state) (row b) (row z) t x (w .rows) ∙ ap (put (jobs-of (b .rows) .state) t) (ap (λ y. y .state) e ∙ p)) i;
-      code = keep (λ y. y .code) (row b) (row z) t x (w .rows) (ap (λ y. y .code) e) i };
+      code = keep (λ y. y .code) (row b) (row z) t x (w .rows) (ap (λ y. y .code) e) i;
+    };
     resource = (edit (λ y. y .resource) (row b) (row z) t x (w .rows) ∙ ap (λ y. put (view b o .resource) t (y .resource)) e) i;
     serial = (edit (λ y. y .serial) (row b) (row z) t x (w .rows) ∙ ap (λ y. put (view b o .serial) t (y .serial)) e) i;
     told = (edit (λ y. y .told) (row b) (row z) t x (w .rows) ∙ ap (put (view b o .told) t) (ap (λ y. y .told) e ∙ c)) i;
     lost = (edit (λ y. y .blocked) (row b) (row z) t x (w .rows) ∙ ap (λ y. put (view b o .lost) t (y .blocked)) e) i;
     used = held-same (λ y. y .used) i;
     longest = held-same (λ y. y .longest) i;
-    order = q }
+    order = q;
+  }
 
 -- a hold of r begins or ends: its used ticks are 0
 pub free-view : {S : Type 0} (b z : Board) (r : ℕ) (x : ResourceRecord) (w : PutHold b r x z) (o : S) → x ≡ begun-hold (hold b r) → view z o ≡ freed-state (view b o) r
@@ -104,7 +128,8 @@ free-view b z r x w o e = λ i. record {
   lost = all (λ y. y .blocked) i;
   used = (edit (λ y. y .used) (hold b) (hold z) r x (w .holds) ∙ ap (λ y. put (view b o .used) r (y .used)) e) i;
   longest = keep (λ y. y .longest) (hold b) (hold z) r x (w .holds) (ap (λ y. y .longest) e) i;
-  order = o }
+  order = o;
+}
   where
     all : {A : Type 0} (field : TaskRecord → A) → _≡_ {A = ℕ → A} (λ k. field (row z k)) (λ k. field (row b k))
     all {A} field = ap {B = ℕ → A} (λ rs k. field (getD rs k blank)) (w .rows)
@@ -140,23 +165,8 @@ module _ {S D : Type 0} (k : Kernel S D) (b z : Board) (w : Ticked b z) (o : S) 
     lost = fun-ext (λ t. ap (λ y. y .blocked) (w .rows t) ∙ lost-by (blocked (jobs-of (b .rows)) (b .cores) t) (row b t) ∙ ap (λ m. cond (blocked (jobs-of (b .rows)) m t) (suc (row b t .blocked)) (row b t .blocked)) (sym e)) i;
     used = fun-ext (λ r. ap (λ y. y .used) (w .holds r) ∙ used-by (busy (jobs-of (b .rows)) (b .cores) r) (hold b r) ∙ ap (λ m. cond (busy (jobs-of (b .rows)) m r) (suc (hold b r .used)) (hold b r .used)) (sym e)) i;
     longest = fun-ext (λ r. ap (λ y. y .longest) (w .holds r) ∙ longest-by (busy (jobs-of (b .rows)) (b .cores) r) (hold b r) ∙ ap (λ m. cond (busy (jobs-of (b .rows)) m r) (max (hold b r .longest) (suc (hold b r .used))) (hold b r .longest)) (sym e)) i;
-    order = o }
-
--- a new board
-pub new-view : {S : Type 0} (m : ℕ) (b : Board) (o : S) → New m b → view b o ≡ at-start o
-new-view m b o w = λ i. record {
-  now = w .now i;
-  jobs = record { state = all (λ y. y .state) i; code = all (λ y. y .code) i };
-  resource = all (λ y. y .resource) i;
-  serial = all (λ y. y .serial) i;
-  told = all (λ y. y .told) i;
-  lost = all (λ y. y .blocked) i;
-  used = fun-ext (λ r. ap (λ y. y .used) (w .holds r)) i;
-  longest = fun-ext (λ r. ap (λ y. y .longest) (w .holds r)) i;
-  order = o }
-  where
-    all : {A : Type 0} (field : TaskRecord → A) → _≡_ {A = ℕ → A} (λ k. field (row b k)) (λ k. field blank)
-    all field = fun-ext (λ k. ap field (w .rows k))
+    order = o;
+  }
 
 -- t laid r down, which left the order q, and the next holder, if any, took it up
 pub released-view : {S : Type 0} (b one z : Board) (t r : ℕ) (n : Option ℕ) (o q : S) → Put b t (turned (row b t) Ready) one → HandedOver one n r z → view z q ≡ release-state (view b o) t r n q

@@ -28,10 +28,11 @@ module _ {S K D Y : Type 0} (o : Ghosts S) (kind : KeyKind.Ghosts K D Y) (stands
   pub holds-list : (events : List (Event D)) (z : Kernel S K D Y) → facts-of z ≡ facts-of k → Leads (kernel-of o kind (facts-of k)) (state-of k) events (state-of z) → Holds o kind k events z
   holds-list events z same steps =
       let on : (start : State S) (h : List (Event D)) → Leads (kernel-of o kind (facts-of k)) start h (state-of k) → Leads (kernel-of o kind (facts-of z)) start (events ++ h) (state-of z) =
-        λ start h l. subst (λ (f : Facts). Leads (kernel-of o kind f) start (events ++ h) (state-of z)) (sym same) (leads-on (kernel-of o kind (facts-of k)) start (state-of k) (state-of z) h events l steps) in
+      λ start h l. subst (λ (f : Facts). Leads (kernel-of o kind f) start (events ++ h) (state-of z)) (sym same) (leads-on (kernel-of o kind (facts-of k)) start (state-of k) (state-of z) h events l steps) in
       record {
         leads = λ start h fresh l. on start h l;
-        guarantee = λ start h fresh l. stands (facts-of z) start (state-of z) (events ++ h) (subst (λ (f : Facts). Fresh (kernel-of o kind f) start) (sym same) fresh) (on start h l) }
+        guarantee = λ start h fresh l. stands (facts-of z) start (state-of z) (events ++ h) (subst (λ (f : Facts). Fresh (kernel-of o kind f) start) (sym same) fresh) (on start h l);
+      }
 
   pub holds-call : (c : Call D) (a : Result Accepted Refusal) (z : Kernel S K D Y) → Took o kind k c a z → Holds o kind k (noted c a ∷ []) z
   holds-call c a z t = holds-list (noted c a ∷ []) z (t .facts) (Leads.more Leads.none (t .step))

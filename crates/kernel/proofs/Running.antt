@@ -74,7 +74,8 @@ module _ {S K D Y : Type 0} (o : Ghosts S) (kind : KeyKind.Ghosts K D Y) (k : Ke
         counted = omega (arith, s .counted, t .counts, noted-accepted c a);
         facts = t .took .facts ∙ s .facts;
         steps = Leads.more (s .steps) (subst (λ (f : Facts). Step (kernel-of o kind f) (state-of mid) (noted c a) (state-of z)) (s .facts) (t .took .step));
-        few = omega (arith, s .few, long, t .counts, one-most a) }
+        few = omega (arith, s .few, long, t .counts, one-most a);
+      }
 
   -- the whole list
   pub sofar-all : (list : List (Call D)) (i n : ℕ) (z : Kernel S K D Y) → ((events : List (Event D)) (y : Kernel S K D Y) → facts-of y ≡ facts-of k → Leads (kernel-of o kind (facts-of k)) (state-of k) events (state-of y) → Holds o kind k events y) → length list ≤ i → Sofar o kind k (take i list) n z → Ran o kind k list n z
@@ -84,4 +85,5 @@ module _ {S K D Y : Type 0} (o : Ghosts S) (kind : KeyKind.Ghosts K D Y) (k : Ke
     counted = s .counted;
     facts = s .facts;
     steps = s .steps;
-    holds = holds (s .history) z (s .facts) (s .steps) }
+    holds = holds (s .history) z (s .facts) (s .steps);
+  }

@@ -29,7 +29,7 @@ use Rattle.runs.specs.declared.call.Accepted.{Accepted}
 use Rattle.runs.specs.declared.refusal.Refusal.{Refusal}
 use Rattle.runs.specs.declared.refusal.Refusal.the-variants.{Unchecked, NoSuchTask, NoSuchResource, AlreadyPending, NoJobPending, Waits, HoldsNothing, OutOfRange, CountSpent, Order}
 use Rattle.runs.specs.Histories.{Event}
-use Rattle.runs.specs.Steps.{Facts, Step, State, refusal, granted, kernel-of, request-state} 
+use Rattle.runs.specs.Steps.{Facts, Step, State, refusal, granted, kernel-of, request-state}
 use Rattle.kernel.specs.declared.kernel.Kernel.{Kernel}
 use Rattle.kernel.specs.Views.{view, state-of, facts-of, noted, done, counted, handed, is-it, HandedOver, BelowTasks, FoundTask}
 use Rattle.kernel.specs.Promises.{Took}
@@ -62,13 +62,6 @@ pending-refused false rest e h = let z : _≡_ {A = ℕ} 0 1 = cc in absurd (ome
 not-pending : (p : Bool) (rest : Option Refusal) → cond p (Some AlreadyPending) None ≡ None → cond p (Some AlreadyPending) rest ≡ rest
 not-pending true rest h = let z : _≡_ {A = ℕ} 0 1 = cc in absurd (omega arith)
 not-pending false rest h = refl
-
--- who holds nothing is refused
-holds-nothing : {A : Type 0} (p w h : Bool) (rest : Option Refusal) → h ≡ false → cond (not p) (Some NoJobPending) (cond w (Some Waits) (cond (not h) (Some HoldsNothing) rest)) ≡ None → A
-holds-nothing true true h rest n e = let z : _≡_ {A = ℕ} 0 1 = cc in absurd (omega arith)
-holds-nothing true false true rest n e = absurd (true≢false n)
-holds-nothing true false false rest n e = let z : _≡_ {A = ℕ} 0 1 = cc in absurd (omega arith)
-holds-nothing false w h rest n e = let z : _≡_ {A = ℕ} 0 1 = cc in absurd (omega arith)
 
 handed-cores : (b z : Board) (n : Option ℕ) (r : ℕ) → HandedOver b n r z → z .cores ≡ b .cores
 handed-cores b z None r h = h .cores
@@ -160,7 +153,8 @@ module _ {S K D Y : Type 0} (o : Ghosts S) (kind : KeyKind.Ghosts K D Y) (k : Ke
     finish-either None z h w = record {
       step = subst (Step (kernel-of o kind (facts-of k)) (state-of k) (Event.finished t)) (sym (turned-view (k .board) z t _ w (k .order) Idle refl)) (Step.finishes (front-known (k .limits .checked) t (k .limits .tasks) _ checked known ∙ h));
       facts = facts-kept z (k .order) (w .cores);
-      kept = λ e x. accepted-not x }
+      kept = λ e x. accepted-not x;
+    }
     finish-either (Some e) z h w = subst (λ (x : Board). Took o kind k (Finish t) (Err e) (after x (k .order))) (sym w) (refused-took (Finish t) e (front-known (k .limits .checked) t (k .limits .tasks) _ checked known ∙ h))
 
     -- the end of a job
@@ -177,9 +171,10 @@ module _ {S K D Y : Type 0} (o : Ghosts S) (kind : KeyKind.Ghosts K D Y) (k : Ke
     pub arrive-took : (d : D) (c : ℕ) (z : Board) → event-refusal (row (k .board) t) (runs t) (Arriving 0) ≡ None → kind .ranged d ≡ true → c ≡ kind .code (kind .key d (k .board .now)) → Put (k .board) t (begun (row (k .board) t) c) z → Took o kind k (Arrive t d) (done (Ok tt)) (after z (k .order))
     arrive-took d c z h fine e w = record {
       step = subst (Step (kernel-of o kind (facts-of k)) (state-of k) (Event.arrived t d)) (sym (begun-view (k .board) z t _ w (kernel-of o kind (facts-of k)) (k .order) d c refl e))
-        (Step.arrives (front-known (k .limits .checked) t (k .limits .tasks) (cond (pending (row (k .board) t .state)) (Some AlreadyPending) (cond (not (kind .ranged d)) (Some OutOfRange) None)) checked known ∙ not-pending (pending (row (k .board) t .state)) _ h ∙ rw fine));
+          (Step.arrives (front-known (k .limits .checked) t (k .limits .tasks) (cond (pending (row (k .board) t .state)) (Some AlreadyPending) (cond (not (kind .ranged d)) (Some OutOfRange) None)) checked known ∙ not-pending (pending (row (k .board) t .state)) _ h ∙ rw fine));
       facts = facts-kept z (k .order) (w .cores);
-      kept = λ x y. accepted-not y }
+      kept = λ x y. accepted-not y;
+    }
 
     -- a request
     pub request-unknown : (r : ℕ) → k .limits .resources ≤ r → Took o kind k (Request t r) (Err NoSuchResource) k
@@ -201,9 +196,10 @@ module _ {S K D Y : Type 0} (o : Ghosts S) (kind : KeyKind.Ghosts K D Y) (k : Ke
             let record-is : asked (row (k .board) t) (placed gr num) num (suc (row (k .board) t .serial)) n ≡ asked (row (k .board) t) (placed (is-it h t) r) r (suc (row (k .board) t .serial)) n = rw (fits, same) in
             record {
               step = subst (λ (x : ℕ). Step (kernel-of o kind (facts-of k)) (state-of k) (Event.requested t r x) (view z q)) (sym told)
-                (subst (Step (kernel-of o kind (facts-of k)) (state-of k) (Event.requested t r (o .count q r t))) (sym (asked-view (k .board) z t _ w (kernel-of o kind (facts-of k)) (k .order) q r n (placed (is-it h t) r) record-is (granted-is h t r ∙ ap (λ x. granted x t r) held) told)) (Step.requests (request-front ∙ free) a));
+                  (subst (Step (kernel-of o kind (facts-of k)) (state-of k) (Event.requested t r (o .count q r t))) (sym (asked-view (k .board) z t _ w (kernel-of o kind (facts-of k)) (k .order) q r n (placed (is-it h t) r) record-is (granted-is h t r ∙ ap (λ x. granted x t r) held) told)) (Step.requests (request-front ∙ free) a));
               facts = facts-kept z q (w .cores);
-              kept = λ x y. accepted-not y }
+              kept = λ x y. accepted-not y;
+            }
 
     -- a release
     release-front : refusal (kernel-of o kind (facts-of k)) (state-of k) (Release t) ≡ event-refusal (row (k .board) t) (runs t) Releasing
@@ -213,10 +209,6 @@ module _ {S K D Y : Type 0} (o : Ghosts S) (kind : KeyKind.Ghosts K D Y) (k : Ke
     release-refused e h = refused-took (Release t) e (release-front ∙ h)
 
     module _ (free : event-refusal (row (k .board) t) (runs t) Releasing ≡ None) where
-      -- a job that may release holds something
-      pub release-holds : {A : Type 0} → is-holding (row (k .board) t .state) ≡ false → A
-      release-holds n = holds-nothing (pending (row (k .board) t .state)) (is-waiting (row (k .board) t .state)) (is-holding (row (k .board) t .state)) _ n free
-
       pub release-kept : (r : ℕ) (word : OrderRefusal) (q : S) → row (k .board) t .state ≡ Holding r → o .passed (k .order) r (Err word) q → q ≡ k .order → Took o kind k (Release t) (Err (Order word)) (after (k .board) q)
       release-kept r word q at a e = subst (λ (x : S). Took o kind k (Release t) (Err (Order word)) (after (k .board) x)) (sym e) (record { step = Step.keeps-in (release-front ∙ free) at a; facts = refl; kept = λ _ _. refl })
 
@@ -224,7 +216,8 @@ module _ {S K D Y : Type 0} (o : Ghosts S) (kind : KeyKind.Ghosts K D Y) (k : Ke
       release-took r n q one z at a w h = record {
         step = subst (Step (kernel-of o kind (facts-of k)) (state-of k) (Event.released t n)) (sym (released-view (k .board) one z t r n (k .order) q w h)) (Step.releases (release-front ∙ free) at a);
         facts = facts-kept z q (handed-cores one z n r h ∙ w .cores);
-        kept = λ x y. accepted-not y }
+        kept = λ x y. accepted-not y;
+      }
 
   -- a tick
   pub tick-unchecked : k .limits .checked ≡ false → Took o kind k Tick (Err Unchecked) k
@@ -239,4 +232,5 @@ module _ {S K D Y : Type 0} (o : Ghosts S) (kind : KeyKind.Ghosts K D Y) (k : Ke
       record {
         step = subst (Step (kernel-of o kind (facts-of k)) (state-of k) Event.ticked) (sym (ticked-view (kernel-of o kind (facts-of k)) (k .board) z w (k .order) refl)) (Step.goes-on (rw (h, n)));
         facts = facts-kept z (k .order) (w .cores);
-        kept = λ x y. accepted-not y }
+        kept = λ x y. accepted-not y;
+      }

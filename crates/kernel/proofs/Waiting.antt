@@ -32,7 +32,8 @@ module _ {S K D Y : Type 0} (o : Ghosts S) (kind : KeyKind.Ghosts K D Y) (k : Ke
         blocked = blocked;
         told = told;
         longest = longest;
-        within = subst (λ x. x ≤ row (k .board) t .told * hold (k .board) r .longest) (sym blocked) (subst (λ x. blocked-ticks key m h t ≤ x) (sym figure) (kept .bounded t)) }
+        within = subst (λ x. x ≤ row (k .board) t .told * hold (k .board) r .longest) (sym blocked) (subst (λ x. blocked-ticks key m h t ≤ x) (sym figure) (kept .bounded t));
+      }
 
   pub waited : (a : Option Wait) (w : Wait) → a ≡ wait-answer k t → a ≡ Some w → Waited o kind k t w h
   waited a w e is = subst (λ (x : Wait). Waited o kind k t x h) (sym (asked-some (k .limits .checked && ltb t (k .limits .tasks)) (wait-of (k .board) t) w (sym is ∙ e) .1)) waited-of

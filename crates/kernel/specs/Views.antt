@@ -85,7 +85,8 @@ view b z = record {
   lost = λ t. getD (b .rows) t blank .blocked;
   used = λ r. getD (b .holds) r unheld .used;
   longest = λ r. getD (b .holds) r unheld .longest;
-  order = z }
+  order = z;
+}
 
 -- the state of a kernel
 abbrev pub state-of : {S K D Y : Type 0} → Kernel S K D Y → State S
@@ -135,7 +136,8 @@ wait-of b t = record {
   blocked = row b t .blocked;
   told = row b t .told;
   longest = hold b (row b t .resource) .longest;
-  figure = row b t .told * hold b (row b t .resource) .longest }
+  figure = row b t .told * hold b (row b t .resource) .longest;
+}
 
 abbrev pub wait-answer : {S K D Y : Type 0} → Kernel S K D Y → ℕ → Option Wait
 wait-answer k t = cond (k .limits .checked && ltb t (k .limits .tasks)) (Some (wait-of (k .board) t)) None

@@ -38,9 +38,9 @@ pub fn check<O: Order>(facts: Facts, order: &O) -> Result<(), Unfit>
     Ok(())
 }
 
-// A kernel at its start, with every task idle and every number 0. It is made of
-// any facts, but where check refuses them it answers `Unchecked` to every call
-// and none to every question.
+// A kernel at its start, with no job and nothing counted yet. It is made of any
+// facts, but where check refuses them all its calls answer `Unchecked` and its
+// questions none.
 pub fn start<O: Order, K: KeyKind>(facts: Facts, order: O, kind: K) -> Kernel<O, K>
     ensures order { λ k. ⌜ state-of k ≡ at-start order ⌝ }
     ensures checked { λ k. ⌜ facts-of k .checked ≡ fits (unfit (facts .cores) (facts .tasks) (facts .resources) (meaning O·Order order)) ⌝ }

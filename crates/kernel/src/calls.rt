@@ -1,4 +1,5 @@
 ghost use mathlib.Core.Path.{_≡_};
+ghost use Rattle.orders.specs.Orders.{asked};
 ghost use Rattle.runs.specs.declared.call.Call.the-variants.{Arrive, Request, Release, Finish, Tick};
 ghost use Rattle.kernel.specs.Views.{done, counted, handed, is-it, or-zero, BelowTasks, HandedOver, FoundTask, FoundResource};
 ghost use Rattle.kernel.specs.Promises.{Took};
@@ -21,7 +22,7 @@ fn is_it(holder: Option<u32>, task: u32) -> bool
     }
 }
 
-// The count of a task that the order has just admitted.
+// The number, or 0 where there is none.
 fn or_zero(count: Option<u32>) -> u32
     ensures { λ a. ⌜ a ≡ or-zero count ⌝ }
 {
@@ -29,6 +30,20 @@ fn or_zero(count: Option<u32>) -> u32
         Some(n) => n,
         None => 0,
     }
+}
+
+// Whether the order names the task as the holder of a resource.
+fn granted_by<O: Order>(order: &O, resource: u32, task: u32) -> bool
+    ensures { λ a. ⌜ a ≡ is-it (O·Order .holder (now (order .entry)) resource) task ⌝ }
+{
+    is_it(order.holder(resource), task)
+}
+
+// The count that the order tells a task which it has just admitted.
+fn told_by<O: Order>(order: &O, resource: u32, task: u32) -> u32
+    ensures { λ a. ⌜ a ≡ or-zero (asked (O·Order .queue (now (order .entry)) resource task) (O·Order .count (now (order .entry)) resource task)) ⌝ }
+{
+    or_zero(order.count(resource, task))
 }
 
 // The next holder, if there is one, holds the resource, and the used ticks start again.
@@ -112,9 +127,10 @@ impl<O: Order, K: KeyKind> Kernel<O, K> {
         if let Err(word) = self.order.admit(resource, task, own.code) {
             return Err(Refusal::Order(word));
         }
-        let granted = is_it(self.order.holder(resource), task);
-        let told = or_zero(self.order.count(resource, task));
-        let _ = self.board.step(no, TaskEvent::Request(wanted, granted, told));
+        let granted = granted_by(&self.order, resource, task);
+        let told = told_by(&self.order, resource, task);
+        let _ = self.board
+            .step(no, TaskEvent::Request(wanted, granted, told));
         Ok(told)
     }
 

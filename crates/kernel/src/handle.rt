@@ -16,7 +16,10 @@ fn done(answer: Result<(), Refusal>) -> Result<Accepted, Refusal>
     ensures { λ a. ⌜ a ≡ done-with answer ⌝ }
 {
     match answer {
-        Ok(()) => Ok(Accepted { told: 0, next: None }),
+        Ok(()) => Ok(Accepted {
+            told: 0,
+            next: None,
+        }),
         Err(why) => Err(why),
     }
 }

@@ -4,7 +4,7 @@ use mathlib.Core.Path.{_≡_, sym, _∙_}
 use Prim.Native.Nat.{_<_}
 use lib.ListN.{length}
 use Rattle.orders.specs.Services.{Lawful}
-use Rattle.gate.proofs.Gatesteps.{held-known, nobody-pass, moved-pass}
+use Rattle.gate.proofs.Gatesteps.{held-known, moved-pass}
 use Rattle.gate.proofs.serve.GateOrder.pass.Needs as need
 
 pub returns : need.returns

@@ -7,4 +7,5 @@ returns g c =
     record {
       took = c .dispatch .ensures;
       holds = holds-call (g .O·Order) (g .K·KeyKind) (c .guarantee-stands .ensures) (c .args .self .now) (c .args .call) (c .dispatch .result) (c .dispatch .last .self) (c .dispatch .ensures);
-      figure = record { bound = stands .told; fresh = stands .fresh; longest = stands .longest } }
+      figure = record { bound = stands .told; fresh = stands .fresh; longest = stands .longest };
+    }

@@ -71,7 +71,7 @@ returns g c =
     let at-n = subst (λ (x : ℕ). o .admitted (k .order) r n x (Ok tt) q) (ap (λ y. y .code) (c .record-own .ensures)) (subst (λ (t : ℕ). o .admitted (k .order) r t (c .record-own .result .code) (Ok tt) q) (sym (found .2)) a) in
     let queued : o .queue q r n ≡ true = subst (λ (x : ℕ). o .queue q r x ≡ true) (sym (found .2)) (g .O·Order·met .admitting (k .order) r t (c .record-own .result .code) (Ok tt) q a .joined refl .queued) in
     let free = verdict-ok _ _ (c .in-rest .ensures tt) in
-    let told : c .or-zero-told .result ≡ o .count q r n = c .or-zero-told .ensures ∙ ap or-zero (c .count .ensures ∙ subst (λ (x : ℕ). asked (o .queue q r x) (o .count q r x) ≡ Some (o .count q r n)) (found .2) (ap (λ b. asked b (o .count q r n)) queued)) in
-    let fits : c .is-it-granted .result ≡ is-it (c .holder .result) n = c .is-it-granted .ensures ∙ ap (is-it (c .holder .result)) (sym (found .2)) in
-    subst (λ (x : ℕ). Took o kind k (Request x r) (counted (Ok (c .or-zero-told .result))) (after o kind k (c .step .last .self) q)) (found .2)
-    (request-took o kind k n (found .0) known (c .in-Ok-resource .wanted) false 0 r (c .in-Ok-resource .ensures tt .0) free q (c .or-zero-told .result) (c .in-Ok-resource .wanted .number) (c .is-it-granted .result) (c .holder .result) (c .step .last .self) at-n (c .holder .ensures) fits told (c .in-Ok-resource .ensures tt .1) (stepped-put _ _ _ _ _ free (c .step .ensures .left)))
+    let told : c .told-by-told .result ≡ o .count q r n = c .told-by-told .ensures ∙ ap or-zero (subst (λ (x : ℕ). asked (o .queue q r x) (o .count q r x) ≡ Some (o .count q r n)) (found .2) (ap (λ b. asked b (o .count q r n)) queued)) in
+    let fits : c .granted-by-granted .result ≡ is-it (o .holder q r) n = c .granted-by-granted .ensures ∙ ap (is-it (o .holder q r)) (sym (found .2)) in
+    subst (λ (x : ℕ). Took o kind k (Request x r) (counted (Ok (c .told-by-told .result))) (after o kind k (c .step .last .self) q)) (found .2)
+    (request-took o kind k n (found .0) known (c .in-Ok-resource .wanted) false 0 r (c .in-Ok-resource .ensures tt .0) free q (c .told-by-told .result) (c .in-Ok-resource .wanted .number) (c .granted-by-granted .result) (o .holder q r) (c .step .last .self) at-n refl fits told (c .in-Ok-resource .ensures tt .1) (stepped-put _ _ _ _ _ free (c .step .ensures .left)))

@@ -20,4 +20,5 @@ returns g c =
     let l : length (c .args .calls .now) ≤ c .loop-i .i = search needs in
     record {
       ran = sofar-all (g .O·Order) (g .K·KeyKind) (c .args .self .now) (c .args .calls .now) (c .loop-i .i) (c .loop-i .accepted) (c .loop-i .self) (holds-list (g .O·Order) (g .K·KeyKind) (c .guarantee-stands .ensures) (c .args .self .now)) l (c .loop-i .inv);
-      figure = record { bound = stands .told; fresh = stands .fresh; longest = stands .longest } }
+      figure = record { bound = stands .told; fresh = stands .fresh; longest = stands .longest };
+    }
