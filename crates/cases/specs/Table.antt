@@ -1,10 +1,18 @@
 -- What the small cases come to
+use Prim.Native.Nat.{ℕ}
 use mathlib.Core.Bool.{true, false}
-use Rattle.std.specs.declared.option.Option.the-variants.{Some}
+use Rattle.std.specs.declared.option.Option.{Option}
+use Rattle.std.specs.declared.option.Option.the-variants.{Some, None}
+use Rattle.std.specs.declared.result.Result.{Result}
+use Rattle.std.specs.declared.result.Result.the-variants.{Ok, Err}
+use Rattle.runs.specs.declared.refusal.Refusal.{Refusal}
+use Rattle.runs.specs.declared.refusal.Refusal.the-variants.{DoesNotRun}
+use Rattle.runs.specs.Refusals.{number-of}
 use Rattle.cases.specs.declared.table.LineCase.{LineCase}
 use Rattle.cases.specs.declared.table.GateCase.{GateCase}
 use Rattle.cases.specs.declared.table.CoveredCase.{CoveredCase}
 use Rattle.cases.specs.declared.table.KeyCase.{KeyCase}
+use Rattle.cases.specs.declared.table.ReleaseCase.{ReleaseCase}
 use Rattle.cases.specs.declared.table.SmallCases.{SmallCases}
 
 -- first-come counts places in line
@@ -34,5 +42,15 @@ covered-table = record { covered = true; count = Some 1; «in_gate_after» = fal
 abbrev pub key-table : KeyCase
 key-table = record { «last_due» = Some 8589934590; «last_normal» = Some 511; «first_background» = Some 512 }
 
+-- the number of a refusal, where there is one
+abbrev pub refusal-number : Result (Option ℕ) Refusal → Option ℕ
+refusal-number (Ok next) = None
+refusal-number (Err why) = Some (number-of why)
+
+-- task 0 is told 0 and holds; once task 1, due sooner, has the only core, task 0 cannot release
+abbrev pub release-table : ReleaseCase
+release-table = record { «first_arrival» = Ok tt; told = Ok 0; «second_arrival» = Ok tt; release = Err DoesNotRun; «release_number» = Some 7 }
+
+-- all of them
 abbrev pub the-table : SmallCases
-the-table = record { line = line-table; gate = gate-table; covered = covered-table; key = key-table }
+the-table = record { line = line-table; gate = gate-table; covered = covered-table; key = key-table; release = release-table }

@@ -1,5 +1,5 @@
-// Small cases of the orders of service and of the kinds of key, run by the code
-// and proved to come out as one table says.
+// Small cases of the orders of service, of the kinds of key and of the kernel,
+// run by the code and proved to come out as one table says.
 
 mod run;
 mod table;
@@ -9,4 +9,5 @@ pub use table::CoveredCase;
 pub use table::GateCase;
 pub use table::KeyCase;
 pub use table::LineCase;
+pub use table::ReleaseCase;
 pub use table::SmallCases;

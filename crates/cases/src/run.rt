@@ -1,15 +1,19 @@
 ghost use mathlib.Core.Path.{_≡_};
+ghost use Prim.Native.Nat.{_≤_, _<_};
 ghost use Rattle.keys.specs.Bands.{more-urgent};
-ghost use Rattle.cases.specs.Table.{line-table, gate-table, covered-table, key-table, the-table};
+ghost use Rattle.cases.specs.Table.{line-table, gate-table, covered-table, key-table, refusal-number, release-table, the-table};
 use crate::table::CoveredCase;
 use crate::table::GateCase;
 use crate::table::KeyCase;
 use crate::table::LineCase;
+use crate::table::ReleaseCase;
 use crate::table::SmallCases;
 use first_come::FirstCome;
 use first_come::FirstComeOrder;
 use gate::GateOrder;
 use gated_line::gated_line;
+use kernel::Facts;
+use kernel::start;
 use keys::BandLevel;
 use keys::Deadline;
 use keys::DeadlineKind;
@@ -17,6 +21,7 @@ use keys::Fixed;
 use keys::FixedKind;
 use keys::KeyKind;
 use orders::Order;
+use runs::Refusal;
 
 fn line_case() -> LineCase
     ensures { λ a. ⌜ a ≡ line-table ⌝ }
@@ -105,6 +110,48 @@ fn key_case() -> KeyCase
     }
 }
 
+// The number of a refused release; none where it was accepted.
+fn number(answer: Result<Option<u32>, Refusal>) -> Option<u32>
+    ensures { λ a. ⌜ a ≡ refusal-number answer ⌝ }
+{
+    match answer {
+        Ok(_) => None,
+        Err(why) => Some(why.number()),
+    }
+}
+
+// Task 0, due at 90, holds when task 1 arrives, due sooner.
+fn release_behind(due: u32) -> ReleaseCase
+    requires sooner { ⌜ 1 ≤ due ⌝ ∗ ⌜ due < 90 ⌝ }
+    ensures { λ a. ⌜ a ≡ release-table ⌝ }
+{
+    let facts = Facts {
+        cores: 1,
+        tasks: 2,
+        resources: 1,
+    };
+    let order = gated_line(1);
+    let mut kernel = start(facts, order, Deadline);
+    let first_arrival = kernel.arrive(0, 90);
+    let told = kernel.request(0, 0);
+    let second_arrival = kernel.arrive(1, due);
+    let release = kernel.release(0);
+    let release_number = number(release);
+    ReleaseCase {
+        first_arrival,
+        told,
+        second_arrival,
+        release,
+        release_number,
+    }
+}
+
+fn release_case() -> ReleaseCase
+    ensures { λ a. ⌜ a ≡ release-table ⌝ }
+{
+    release_behind(10)
+}
+
 // All small cases. What the code answers is the table, and of the two keys of
 // the fixed kind in it the first is ahead.
 pub fn small_cases() -> SmallCases
@@ -116,5 +163,6 @@ pub fn small_cases() -> SmallCases
         gate: gate_case(),
         covered: covered_case(),
         key: key_case(),
+        release: release_case(),
     }
 }

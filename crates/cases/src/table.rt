@@ -1,3 +1,5 @@
+use runs::Refusal;
+
 // First-come with tasks 0, 1 and 2 admitted: the count of each.
 #[derive(Clone, Copy)]
 pub struct LineCase {
@@ -43,10 +45,23 @@ pub struct KeyCase {
     pub first_background: Option<u64>,
 }
 
+// A kernel with one core, two tasks and one resource: task 0 arrives, due at 90,
+// and requests the resource; task 1 arrives, due at 10; and task 0 releases. What
+// each call answers, and the number of the last refusal.
+#[derive(Clone, Copy)]
+pub struct ReleaseCase {
+    pub first_arrival: Result<(), Refusal>,
+    pub told: Result<u32, Refusal>,
+    pub second_arrival: Result<(), Refusal>,
+    pub release: Result<Option<u32>, Refusal>,
+    pub release_number: Option<u32>,
+}
+
 #[derive(Clone, Copy)]
 pub struct SmallCases {
     pub line: LineCase,
     pub gate: GateCase,
     pub covered: CoveredCase,
     pub key: KeyCase,
+    pub release: ReleaseCase,
 }

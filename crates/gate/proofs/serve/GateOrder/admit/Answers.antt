@@ -7,19 +7,22 @@ use Rattle.orders.specs.Orders.{size}
 use Rattle.orders.specs.Services.{meaning, Lawful}
 use Rattle.gate.proofs.Gatesteps.{beside-set, unmarked-set, entered-set, closed-admit, below-admit, gate-admit}
 use Rattle.gate.proofs.serve.GateOrder.admit.Needs as need
+use Rattle.gate.proofs.serve.GateOrder.admit.Given as given
+
+-- the laws of the order below
+lawful : (g : given.Over) → Lawful (g .L·Order)
+lawful g = let m = g .L·Order·met in record { rules = m .rules; admitting = m .admitting; passing = m .passing; unadmitted = m .unadmitted; unpassed = m .unpassed }
 
 pub returns-then-not-is-open : need.returns-then-not-is-open
 returns-then-not-is-open g c =
     let o = g .L·Order in
-    let m = g .L·Order·met in
-    let laws : Lawful o = record { rules = m .rules; admitting = m .admitting; passing = m .passing; unadmitted = m .unadmitted; unpassed = m .unpassed } in
+    let laws = lawful g in
     closed-admit o laws (c .args .self .now) (c .args .resource) (c .args .task) (c .args .urgency) (search needs) (search needs) (sym (c .if-not-is-open .ensures tt))
 
 pub returns-then-size-of-width : need.returns-then-size-of-width
 returns-then-size-of-width g c =
     let o = g .L·Order in
-    let m = g .L·Order·met in
-    let laws : Lawful o = record { rules = m .rules; admitting = m .admitting; passing = m .passing; unadmitted = m .unadmitted; unpassed = m .unpassed } in
+    let laws = lawful g in
     let s = c .args .self .now in
     let r = c .args .resource in
     let long : r < length (s .rows) = search needs in
@@ -30,8 +33,7 @@ returns-then-size-of-width g c =
 pub returns : need.returns
 returns g c =
     let o = g .L·Order in
-    let m = g .L·Order·met in
-    let laws : Lawful o = record { rules = m .rules; admitting = m .admitting; passing = m .passing; unadmitted = m .unadmitted; unpassed = m .unpassed } in
+    let laws = lawful g in
     let s = c .args .self .now in
     let r = c .args .resource in
     let t = c .args .task in

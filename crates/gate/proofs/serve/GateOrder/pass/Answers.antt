@@ -6,12 +6,16 @@ use lib.ListN.{length}
 use Rattle.orders.specs.Services.{Lawful}
 use Rattle.gate.proofs.Gatesteps.{held-known, moved-pass}
 use Rattle.gate.proofs.serve.GateOrder.pass.Needs as need
+use Rattle.gate.proofs.serve.GateOrder.pass.Given as given
+
+-- the laws of the order below
+lawful : (g : given.Over) → Lawful (g .L·Order)
+lawful g = let m = g .L·Order·met in record { rules = m .rules; admitting = m .admitting; passing = m .passing; unadmitted = m .unadmitted; unpassed = m .unpassed }
 
 pub returns : need.returns
 returns g c =
     let o = g .L·Order in
-    let m = g .L·Order·met in
-    let laws : Lawful o = record { rules = m .rules; admitting = m .admitting; passing = m .passing; unadmitted = m .unadmitted; unpassed = m .unpassed } in
+    let laws = lawful g in
     let s = c .args .self .now in
     let r = c .args .resource in
     let long : r < length (s .rows) = search needs in
@@ -24,6 +28,5 @@ returns g c =
 pub leave-requires : need.leave-requires
 leave-requires g c κs =
     let o = g .L·Order in
-    let m = g .L·Order·met in
-    let laws : Lawful o = record { rules = m .rules; admitting = m .admitting; passing = m .passing; unadmitted = m .unadmitted; unpassed = m .unpassed } in
+    let laws = lawful g in
     held-known o laws (c .args .self .now) (c .args .resource) (c .in-Some .first) (sym (c .in-Some .ensures tt))
