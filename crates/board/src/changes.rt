@@ -7,14 +7,14 @@ ghost use Rattle.board.specs.Boards.{turned, begun-hold, named};
 ghost use Rattle.board.specs.Calls.{row, hold as hold-of, New, Put, PutHold, Ticked};
 use crate::board::Board;
 use crate::demand::recount;
-use crate::number::ResourceNo;
-use crate::number::TaskNo;
 use crate::record::ResourceRecord;
 use crate::record::TaskRecord;
 use crate::settle::blocked_set;
 use crate::settle::running_set;
 use crate::tick::tick_holds;
 use crate::tick::tick_tasks;
+use jobs::ResourceNo;
+use jobs::TaskNo;
 use jobs::TaskState;
 
 impl Board {

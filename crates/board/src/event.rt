@@ -1,4 +1,4 @@
-use crate::number::ResourceNo;
+use jobs::ResourceNo;
 
 // What can happen to a task's job.
 #[derive(Clone, Copy)]

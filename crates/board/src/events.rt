@@ -8,8 +8,8 @@ ghost use Rattle.board.specs.Calls.{row};
 ghost use Rattle.board.specs.Events.{event-refusal, event-record, verdict, Stepped};
 use crate::board::Board;
 use crate::event::TaskEvent;
-use crate::number::ResourceNo;
-use crate::number::TaskNo;
+use jobs::ResourceNo;
+use jobs::TaskNo;
 use jobs::TaskState;
 use runs::Refusal;
 

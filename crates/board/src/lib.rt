@@ -6,7 +6,6 @@ mod changes;
 mod demand;
 mod event;
 mod events;
-mod number;
 mod questions;
 mod record;
 mod settle;
@@ -15,7 +14,5 @@ mod tick;
 
 pub use board::Board;
 pub use event::TaskEvent;
-pub use number::ResourceNo;
-pub use number::TaskNo;
 pub use record::ResourceRecord;
 pub use record::TaskRecord;

@@ -3,10 +3,10 @@ ghost use Rattle.jobs.specs.Jobs.{running as runs-in};
 ghost use Rattle.board.specs.Boards.{jobs-of, Run};
 ghost use Rattle.board.specs.Calls.{row, hold as hold-of};
 use crate::board::Board;
-use crate::number::ResourceNo;
-use crate::number::TaskNo;
 use crate::record::ResourceRecord;
 use crate::record::TaskRecord;
+use jobs::ResourceNo;
+use jobs::TaskNo;
 
 impl Board {
     // How many ticks were counted.

@@ -21,7 +21,8 @@ use Rattle.kernel.specs.declared.kernel.Kernel.{Kernel}
 use Rattle.kernel.specs.Views.{facts-of, state-of, noted}
 use Rattle.kernel.specs.Promises.{Counted, one-if-accepted, how-many-accepted, Holds, Ran}
 
-noted-call : {D : Type 0} (c : Call D) (a : Result Accepted Refusal) → call-of (noted c a) ≡ c
+-- the call of the event that a call and its answer make is that call
+pub noted-call : {D : Type 0} (c : Call D) (a : Result Accepted Refusal) → call-of (noted c a) ≡ c
 noted-call (Arrive t d) (Ok a) = refl
 noted-call (Arrive t d) (Err e) = refl
 noted-call (Request t r) (Ok a) = refl

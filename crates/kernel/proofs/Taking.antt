@@ -19,7 +19,7 @@ use Rattle.jobs.specs.Jobs.{pending, is-waiting, is-holding, running}
 use Rattle.board.specs.declared.board.Board.{Board}
 use Rattle.board.specs.declared.record.TaskRecord.{TaskRecord}
 use Rattle.board.specs.declared.event.TaskEvent.the-variants.{Arrive as Arriving, Request as Requesting, Release as Releasing, Finish as Finishing}
-use Rattle.board.specs.declared.number.ResourceNo.{ResourceNo}
+use Rattle.jobs.specs.declared.number.ResourceNo.{ResourceNo}
 use Rattle.board.specs.Boards.{jobs-of, begun, turned, asked, placed, begun-hold}
 use Rattle.board.specs.Calls.{row, hold, Put, PutHold, Ticked}
 use Rattle.board.specs.Events.{event-refusal, verdict, Stepped}

@@ -10,8 +10,8 @@ use Rattle.std.specs.declared.option.Option.the-variants.{Some, None}
 use Rattle.std.specs.declared.result.Result.{Result}
 use Rattle.std.specs.declared.result.Result.the-variants.{Ok, Err}
 use Rattle.board.specs.declared.board.Board.{Board}
-use Rattle.board.specs.declared.number.TaskNo.{TaskNo}
-use Rattle.board.specs.declared.number.ResourceNo.{ResourceNo}
+use Rattle.jobs.specs.declared.number.TaskNo.{TaskNo}
+use Rattle.jobs.specs.declared.number.ResourceNo.{ResourceNo}
 use Rattle.board.specs.Boards.{blank, unheld, jobs-of, turned, begun-hold}
 use Rattle.board.specs.Calls.{row, hold, Put, PutHold}
 use Rattle.board.specs.declared.record.TaskRecord.{TaskRecord}

@@ -5,9 +5,9 @@ ghost use Rattle.kernel.specs.Views.{done, counted, handed, is-it, or-zero, Be
 ghost use Rattle.kernel.specs.Promises.{Took};
 use crate::kernel::Kernel;
 use board::Board;
-use board::ResourceNo;
 use board::TaskEvent;
-use board::TaskNo;
+use jobs::ResourceNo;
+use jobs::TaskNo;
 use keys::KeyKind;
 use orders::Order;
 use runs::Refusal;

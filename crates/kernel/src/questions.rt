@@ -7,10 +7,10 @@ ghost use Rattle.kernel.specs.Views.{facts-of, state-of, task-answer, resource
 ghost use Rattle.kernel.specs.Promises.{Waited};
 use crate::kernel::Kernel;
 use crate::wait::Wait;
-use board::ResourceNo;
 use board::ResourceRecord;
-use board::TaskNo;
 use board::TaskRecord;
+use jobs::ResourceNo;
+use jobs::TaskNo;
 use keys::KeyKind;
 use orders::Order;
 use runs::guarantee_stands;

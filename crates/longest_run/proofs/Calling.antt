@@ -1,5 +1,5 @@
 -- a history grows call by call
-use Prim.Native.Nat.{ℕ, suc, _+_, _*_}
+use Prim.Native.Nat.{ℕ, _+_}
 use native.Mathlib.Numerals.{add-one}
 use mathlib.Core.Path.{_≡_, refl, sym, _∙_, ap, subst}
 use mathlib.Core.List.{List, [], _∷_}
@@ -19,18 +19,7 @@ use Rattle.kernel.specs.declared.kernel.Kernel.{Kernel}
 use Rattle.kernel.specs.Views.{facts-of, state-of, noted}
 use Rattle.kernel.specs.Promises.{Took}
 use Rattle.longest_run.specs.Reached.{Went}
-
-noted-call : {D : Type 0} (c : Call D) (a : Result Accepted Refusal) → call-of (noted c a) ≡ c
-noted-call (Arrive t d) (Ok a) = refl
-noted-call (Arrive t d) (Err e) = refl
-noted-call (Request t r) (Ok a) = refl
-noted-call (Request t r) (Err e) = refl
-noted-call (Release t) (Ok a) = refl
-noted-call (Release t) (Err e) = refl
-noted-call (Finish t) (Ok a) = refl
-noted-call (Finish t) (Err e) = refl
-noted-call Tick (Ok a) = refl
-noted-call Tick (Err e) = refl
+use Rattle.kernel.proofs.Running.{noted-call}
 
 module _ {K D Y : Type 0} (kind : KeyKind.Ghosts K D Y) (k : Kernel (Gate FirstCome) K D Y) where
   -- no call yet

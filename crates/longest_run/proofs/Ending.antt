@@ -1,7 +1,7 @@
 -- what the whole list of calls leaves in the kernel's records
 use Prim.Native.Nat.{ℕ, _-_, _*_, _≤_}
 use native.Mathlib.Omega.{arith}
-use mathlib.Core.Path.{_≡_, _∙_, ap, subst}
+use mathlib.Core.Path.{_≡_, sym, _∙_, ap, subst}
 use mathlib.Core.Bool.{true}
 use mathlib.Core.List.{List}
 use Rattle.std.specs.declared.option.Option.the-variants.{None}
@@ -18,6 +18,7 @@ use Rattle.longest.specs.Longest.{longest-calls, gated-kernel, LongestWait, Fre
 use Rattle.kernel.specs.declared.kernel.Kernel.{Kernel}
 use Rattle.kernel.specs.Views.{facts-of, state-of, made-of}
 use Rattle.longest_run.specs.Reached.{Went, Reached}
+use Rattle.longest_run.proofs.Asking.{OfZero, longest-zero, asked-zero, full}
 
 module _ {K D Y : Type 0} (kind : KeyKind.Ghosts K D Y)
     (stands : (f : Facts) (start s : State (Gate FirstCome)) (h : List (Event D)) → Fresh (kernel-of gated-order kind f) start → Leads (kernel-of gated-order kind f) start h s → Guarantee (kernel-of gated-order kind f) start h s)
@@ -33,6 +34,11 @@ module _ {K D Y : Type 0} (kind : KeyKind.Ghosts K D Y)
       subst (λ (s : State (Gate FirstCome)). Leads (gated-kernel kind m n r) s h (state-of z)) starts (subst (λ (f : Facts). Leads (kernel-of gated-order kind f) (state-of k) h (state-of z)) facts (w .steps)) in
       let out = waits m n r d g (state-of z) h low high wide top any few ranged new leads (w .listed) in
       let kept = stands (made-of m n r) (at-start g) (state-of z) h fresh leads in
+      let holds = ap (λ (j : Jobs). j .state (m - 1)) (kept .jobs) ∙ out .holds in
+      let blocked = ap (λ (f : ℕ → ℕ). f (m - 1)) (kept .lost) ∙ out .lost in
+      let told = ap (λ (f : ℕ → ℕ). f (m - 1)) (kept .told) ∙ out .told in
+      let longest = kept .longest 0 ∙ out .longest in
+      let zeroth = ap (λ (f : ℕ → ℕ). f (m - 1)) (kept .resource) ∙ asked-zero h (subst OfZero (sym (w .listed)) (longest-zero m d)) (m - 1) in
       record {
         gate = g;
         history = h;
@@ -42,8 +48,9 @@ module _ {K D Y : Type 0} (kind : KeyKind.Ghosts K D Y)
         leads = leads;
         listed = w .listed;
         none-refused = out .none-refused;
-        holds = ap (λ (j : Jobs). j .state (m - 1)) (kept .jobs) ∙ out .holds;
-        blocked = ap (λ (f : ℕ → ℕ). f (m - 1)) (kept .lost) ∙ out .lost;
-        told = ap (λ (f : ℕ → ℕ). f (m - 1)) (kept .told) ∙ out .told;
-        longest = kept .longest 0 ∙ out .longest;
+        holds = holds;
+        blocked = blocked;
+        told = told;
+        longest = longest;
+        waited = full z (m - 1) n (2 * m - 1) (w .facts ∙ facts) (omega arith) zeroth blocked told longest;
       }

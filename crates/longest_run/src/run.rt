@@ -60,10 +60,11 @@ fn make_calls<K: KeyKind>(kernel: &mut Kernel<Gate<FirstCome>, K>, declared: K::
     release_in_turn(kernel, m, 2 * m - 1);
 }
 
-// A kernel over the gate over first-come that has run the longest wait: task
-// cores - 1 holds resource 0 after 2 × cores - 1 blocked ticks, as many as it
-// was told, where no hold is longer than a tick. With other numbers than those
-// named in the promise the kernel is left at its start.
+// A kernel over the gate over first-come that has run the longest wait, where
+// every task declares the same. At its end the task cores - 1 holds resource 0,
+// after 2 × cores - 1 blocked ticks, as many as it was told, and no hold was
+// longer than a tick. This is for 1 to 16 cores, at least twice as many tasks, up
+// to 64, and 1 to 32 resources; with other numbers the kernel is left at its start.
 pub fn longest_wait<K: KeyKind>(
     kind: K,
     declared: K::Declared,
