@@ -109,6 +109,19 @@ noted (Finish t) (Err e) = Event.refused (Finish t) e
 noted Tick (Ok a) = Event.ticked
 noted Tick (Err e) = Event.refused Tick e
 
+-- an accepted call tells no more than it has to: the count of a request, the next holder after a release
+abbrev pub Plain : {D : Type 0} → Call D → Result Accepted Refusal → Type 0
+Plain (Arrive t d) (Ok a) = a ≡ record { told = 0; next = None }
+Plain (Arrive t d) (Err e) = Unit {0}
+Plain (Request t r) (Ok a) = a .next ≡ None
+Plain (Request t r) (Err e) = Unit {0}
+Plain (Release t) (Ok a) = a .told ≡ 0
+Plain (Release t) (Err e) = Unit {0}
+Plain (Finish t) (Ok a) = a ≡ record { told = 0; next = None }
+Plain (Finish t) (Err e) = Unit {0}
+Plain Tick (Ok a) = a ≡ record { told = 0; next = None }
+Plain Tick (Err e) = Unit {0}
+
 -- what a call that answers nothing, a count, or a next holder comes to as an answer of any call
 abbrev pub done : Result (Unit {0}) Refusal → Result Accepted Refusal
 done (Ok u) = Ok (record { told = 0; next = None })

@@ -1,6 +1,6 @@
 ghost use mathlib.Core.Path.{_≡_};
 ghost use mathlib.Core.List.{[], _∷_};
-ghost use Rattle.kernel.specs.Views.{noted, done as done-with, counted as counted-with, handed as handed-with};
+ghost use Rattle.kernel.specs.Views.{noted, Plain, done as done-with, counted as counted-with, handed as handed-with};
 ghost use Rattle.kernel.specs.Promises.{Took, Counted, Holds, GateFigure, Ran};
 use crate::kernel::Kernel;
 use keys::KeyKind;
@@ -47,7 +47,8 @@ fn handed(answer: Result<Option<u32>, Refusal>) -> Result<Accepted, Refusal>
 impl<O: Order, K: KeyKind> Kernel<O, K> {
     // Any call, by its kind.
     fn dispatch(&mut self, call: Call<K::Declared>) -> Result<Accepted, Refusal>
-        ensures { λ a. ⌜ Took O·Order K·KeyKind (now (self .entry)) call a (now (self .exit)) ⌝ }
+        ensures took { λ a. ⌜ Took O·Order K·KeyKind (now (self .entry)) call a (now (self .exit)) ⌝ }
+        ensures plain { λ a. ⌜ Plain call a ⌝ }
     {
         match call {
             Call::Arrive(task, declared) => done(self.arrive(task, declared)),
@@ -63,6 +64,7 @@ impl<O: Order, K: KeyKind> Kernel<O, K> {
     // of key, for every checked start and every history that led here.
     pub fn handle(&mut self, call: Call<K::Declared>) -> Result<Accepted, Refusal>
         ensures took { λ a. ⌜ Took O·Order K·KeyKind (now (self .entry)) call a (now (self .exit)) ⌝ }
+        ensures plain { λ a. ⌜ Plain call a ⌝ }
         ensures holds { λ a. ⌜ Holds O·Order K·KeyKind (now (self .entry)) (noted call a ∷ []) (now (self .exit)) ⌝ }
         ensures figure { λ _. ⌜ GateFigure K·KeyKind ⌝ }
     {
