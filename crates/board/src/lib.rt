@@ -1,6 +1,8 @@
 // The records of a kernel for up to 64 tasks and 32 resources, and beside them
 // which tasks run and which are blocked.
 
+#![tactic(auto)]
+
 mod board;
 mod changes;
 mod demand;

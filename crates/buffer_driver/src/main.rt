@@ -1,6 +1,9 @@
 // A driver's story on one core: the camera and the divert arm share a frame
 // buffer. Each opens it, waits, claims it, works and closes it. Output that fails
 // is passed over: no hold is let go for it.
+
+#![tactic(auto)]
+
 use driver::{Hold, Ticket, Unclosed, claim, close, lay_down, open};
 use first_come::FirstCome;
 use gate::Gate;
@@ -180,7 +183,7 @@ fn close_held(
 }
 
 // Holds that are still to be closed, of the camera and of the arm.
-#[derive(Drop)]
+#[derive(Debug, Drop)]
 struct Left {
     camera: Option<Hold>,
     arm: Option<Hold>,

@@ -1,6 +1,8 @@
 // Small cases of the orders of service, of the kinds of key and of the kernel,
 // run by the code and proved to come out as one table says.
 
+#![tactic(auto)]
+
 mod run;
 mod table;
 

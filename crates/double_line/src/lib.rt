@@ -2,6 +2,8 @@
 // count. It keeps the rules and is not first-come, so whatever is proved and run
 // over it does not rest on first-come.
 
+#![tactic(auto)]
+
 mod double;
 mod serve;
 #[cfg(test)]

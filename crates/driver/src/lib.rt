@@ -1,6 +1,8 @@
 // The driver's face of the kernel: a request gives a ticket, a ticket becomes a
 // hold once its task holds the resource, and a hold is spent by closing it.
 
+#![tactic(auto)]
+
 mod claiming;
 mod closing;
 mod hold;

@@ -2,6 +2,8 @@
 // the number of bytes, the first line of the output, how many lines the output has,
 // and how many lines of the file were refused, with the number of the last refusal.
 
+#![tactic(auto)]
+
 mod build;
 mod contention;
 

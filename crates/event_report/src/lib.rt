@@ -1,6 +1,8 @@
 // What is told of an event file: why it or one of its lines is refused, and the
 // report of a whole file.
 
+#![tactic(auto)]
+
 mod reasons;
 mod refusing;
 mod report;

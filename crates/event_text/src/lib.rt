@@ -1,5 +1,7 @@
 // The text of event files: lines, the header, events, and why a line is refused.
 
+#![tactic(auto)]
+
 mod events;
 mod fault;
 mod form;

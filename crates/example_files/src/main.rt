@@ -13,6 +13,9 @@
 // longest_wait.events: task 3 waits as long as a task on four cores can.
 //
 // wrong.events: typical mistakes, with good lines between them.
+
+#![tactic(auto)]
+
 use event_file::run_file;
 use event_report::{Fault, Report};
 use std::{fs, io};

@@ -1,5 +1,7 @@
 // The names of the fields of a line, recognised byte by byte.
 
+#![tactic(auto)]
+
 mod name;
 mod names;
 

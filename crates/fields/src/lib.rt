@@ -1,6 +1,8 @@
 // The fields of a line of text: how bytes are cut, words and numbers, and
 // the tokens that they give.
 
+#![tactic(auto)]
+
 mod cut;
 mod field;
 mod numbers;

@@ -1,5 +1,8 @@
 // Follows one task, the divert arm's, through a gate over first-come on a dock
 // with two cores, from its request to the end of its hold.
+
+#![tactic(auto)]
+
 use first_come::FirstCome;
 use gate::Gate;
 use gated_line::{Standing, gated_line, where_stands};

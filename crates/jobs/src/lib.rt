@@ -1,5 +1,7 @@
 // Jobs: what state each is in, which are ahead of which, which run and which are blocked.
 
+#![tactic(auto)]
+
 mod number;
 mod stands;
 mod state;

@@ -1,6 +1,8 @@
 // The kernel over any order of service and any kind of key: check and start, the
 // calls, the questions, and the guarantee over every run.
 
+#![tactic(auto)]
+
 mod begin;
 mod calls;
 mod checked;

@@ -1,6 +1,8 @@
 // lockrun: runs an event file from standard input. The answers go to standard
 // output, and what was wrong with the file goes to standard error in words.
 
+#![tactic(auto)]
+
 mod explain;
 
 use event_file::run_file;

@@ -1,6 +1,8 @@
 // Orders of service: who is queued for a resource, who holds it, and how much
 // is ahead of each. Whatever keeps the rules of `Order` is one.
 
+#![tactic(auto)]
+
 mod nobody;
 mod order;
 mod refusal;

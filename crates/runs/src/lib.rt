@@ -1,5 +1,7 @@
 // Calls of the kernel, the histories that they make, and what holds of every one.
 
+#![tactic(auto)]
+
 mod call;
 mod number;
 mod refusal;

@@ -1,5 +1,8 @@
 // Lines, good and bad, with the number of the fault that each is refused with, 0
 // for a line that is read.
+
+#![tactic(auto)]
+
 ghost use Rattle.std.specs.Prelude.{◌≡◌, length};
 ghost use Rattle.fields.specs.Cutting.{lines};
 ghost use Rattle.text_cases.specs.Cases.{fault_in, case_fault};

@@ -1,6 +1,9 @@
 // Trial runs of the kernel: a sample with two tasks, the longest wait for every
 // number of cores and both kinds of key, and the same kernel over another order
 // of service.
+
+#![tactic(auto)]
+
 ghost use Rattle.std.specs.Prelude.{◌≤◌};
 
 use double_line::DoubleLine;

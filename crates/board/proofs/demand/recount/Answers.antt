@@ -6,7 +6,7 @@ use Rattle.board.proofs.demand.recount.Goals.{then-k-task, else-k-task}
 pub shifted-requires : goal.shifted-requires
 shifted-requires c =
     shifting_fits c.args.rows.now c.args.task c.args.old c.args.ahead.now c.loop-k.ahead c.loop-k.k c.requires.known (search rules) c.requires.counted c.loop-k.invariant
-    c.loop-k-test.true c.if-k-task.true c.is-before.result c.is-before.ensures
+    c.loop-k-test.true c.if-k-task.true c.is_before.result c.is_before.ensures
 
 pub loop-k-preserved : goal.loop-k-preserved
 loop-k-preserved c =
@@ -19,7 +19,7 @@ loop-k-preserved c =
     elim c.if-k-task.branch [
       | then-k-task w ↦ rw w.ahead-is
           (shifting_more rows t old start list n c.requires.known (search rules) c.requires.counted c.loop-k.invariant c.loop-k-test.true w.if-k-task.true (search rules)
-          w.is-before.result w.is-before-then-k-task.result w.is-before.ensures w.is-before-then-k-task.ensures w.shifted.result w.shifted.ensures)
+          w.is_before.result w.is_before-then-k-task.result w.is_before.ensures w.is_before-then-k-task.ensures w.shifted.result w.shifted.ensures)
       | else-k-task w ↦ rw w.ahead-is (shifting_skips rows t old start list n c.requires.known (search rules) c.requires.counted c.loop-k.invariant w.if-k-task.false)
     ]
 

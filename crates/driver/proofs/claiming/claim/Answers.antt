@@ -10,6 +10,6 @@ returns g c =
     let x = c.args.ticket in
     record {
       told = c.turn.ensures;
-      names = c.names-stand.ensures (facts_of k) (state_of k) x.task x.serial x.resource;
-      holds = holds_list g.O.Order g.K.KeyKind c.guarantee-stands.ensures k [] k refl Leads.none;
+      names = c.names_stand.ensures (facts_of k) (state_of k) x.task x.serial x.resource;
+      holds = holds_list g.O.Order g.K.KeyKind c.guarantee_stands.ensures k [] k refl Leads.none;
     }

@@ -15,8 +15,8 @@ returns-in-Fifo-Deadline c =
     let m = h.cores in
     let s = c.new.result in
     let ls = lines c.args.rest.now in
-    by_words h.order Fifo h.key Deadline m h.tasks h.resources ls c.run-events.result c.in-Fifo-Deadline.is-0 c.in-Fifo-Deadline.is-1
-    (made_into (KernelRun line_order deadline_kind deadline_event_of m h.tasks h.resources s ls) (Chosen Fifo Deadline m h.tasks h.resources ls) c.run-events.result (λ rep p. (s, new_line m s c.new.ensures.width c.new.ensures.places c.new.ensures.lines, p)) c.run-events.ensures)
+    by_words h.order Fifo h.key Deadline m h.tasks h.resources ls c.run_events.result c.in-Fifo-Deadline.is-0 c.in-Fifo-Deadline.is-1
+    (made_into (KernelRun line_order deadline_kind deadline_event_of m h.tasks h.resources s ls) (Chosen Fifo Deadline m h.tasks h.resources ls) c.run_events.result (λ rep p. (s, new_line m s c.new.ensures.width c.new.ensures.places c.new.ensures.lines, p)) c.run_events.ensures)
 
 pub returns-in-Fifo-Fixed : goal.returns-in-Fifo-Fixed
 returns-in-Fifo-Fixed c =
@@ -24,23 +24,23 @@ returns-in-Fifo-Fixed c =
     let m = h.cores in
     let s = c.new-in-Fifo-Fixed.result in
     let ls = lines c.args.rest.now in
-    by_words h.order Fifo h.key Fixed m h.tasks h.resources ls c.run-events-in-Fifo-Fixed.result c.in-Fifo-Fixed.is-0 c.in-Fifo-Fixed.is-1
-    (made_into (KernelRun line_order fixed_kind fixed_event_of m h.tasks h.resources s ls) (Chosen Fifo Fixed m h.tasks h.resources ls) c.run-events-in-Fifo-Fixed.result (λ rep p. (s, new_line m s c.new-in-Fifo-Fixed.ensures.width c.new-in-Fifo-Fixed.ensures.places c.new-in-Fifo-Fixed.ensures.lines, p)) c.run-events-in-Fifo-Fixed.ensures)
+    by_words h.order Fifo h.key Fixed m h.tasks h.resources ls c.run_events-in-Fifo-Fixed.result c.in-Fifo-Fixed.is-0 c.in-Fifo-Fixed.is-1
+    (made_into (KernelRun line_order fixed_kind fixed_event_of m h.tasks h.resources s ls) (Chosen Fifo Fixed m h.tasks h.resources ls) c.run_events-in-Fifo-Fixed.result (λ rep p. (s, new_line m s c.new-in-Fifo-Fixed.ensures.width c.new-in-Fifo-Fixed.ensures.places c.new-in-Fifo-Fixed.ensures.lines, p)) c.run_events-in-Fifo-Fixed.ensures)
 
 pub returns-in-Gate-Deadline : goal.returns-in-Gate-Deadline
 returns-in-Gate-Deadline c =
     let h = c.args.header in
     let m = h.cores in
-    let s = c.gated-line.result in
+    let s = c.gated_line.result in
     let ls = lines c.args.rest.now in
-    by_words h.order Gate h.key Deadline m h.tasks h.resources ls c.run-events-in-Gate-Deadline.result c.in-Gate-Deadline.is-0 c.in-Gate-Deadline.is-1
-    (made_into (KernelRun gated_order deadline_kind deadline_event_of m h.tasks h.resources s ls) (Chosen Gate Deadline m h.tasks h.resources ls) c.run-events-in-Gate-Deadline.result (λ rep p. (s, c.gated-line.ensures.empty, p)) c.run-events-in-Gate-Deadline.ensures)
+    by_words h.order Gate h.key Deadline m h.tasks h.resources ls c.run_events-in-Gate-Deadline.result c.in-Gate-Deadline.is-0 c.in-Gate-Deadline.is-1
+    (made_into (KernelRun gated_order deadline_kind deadline_event_of m h.tasks h.resources s ls) (Chosen Gate Deadline m h.tasks h.resources ls) c.run_events-in-Gate-Deadline.result (λ rep p. (s, c.gated_line.ensures.empty, p)) c.run_events-in-Gate-Deadline.ensures)
 
 pub returns-in-Gate-Fixed : goal.returns-in-Gate-Fixed
 returns-in-Gate-Fixed c =
     let h = c.args.header in
     let m = h.cores in
-    let s = c.gated-line-in-Gate-Fixed.result in
+    let s = c.gated_line-in-Gate-Fixed.result in
     let ls = lines c.args.rest.now in
-    by_words h.order Gate h.key Fixed m h.tasks h.resources ls c.run-events-in-Gate-Fixed.result c.in-Gate-Fixed.is-0 c.in-Gate-Fixed.is-1
-    (made_into (KernelRun gated_order fixed_kind fixed_event_of m h.tasks h.resources s ls) (Chosen Gate Fixed m h.tasks h.resources ls) c.run-events-in-Gate-Fixed.result (λ rep p. (s, c.gated-line-in-Gate-Fixed.ensures.empty, p)) c.run-events-in-Gate-Fixed.ensures)
+    by_words h.order Gate h.key Fixed m h.tasks h.resources ls c.run_events-in-Gate-Fixed.result c.in-Gate-Fixed.is-0 c.in-Gate-Fixed.is-1
+    (made_into (KernelRun gated_order fixed_kind fixed_event_of m h.tasks h.resources s ls) (Chosen Gate Fixed m h.tasks h.resources ls) c.run_events-in-Gate-Fixed.result (λ rep p. (s, c.gated_line-in-Gate-Fixed.ensures.empty, p)) c.run_events-in-Gate-Fixed.ensures)

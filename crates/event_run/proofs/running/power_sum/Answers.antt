@@ -7,8 +7,8 @@ use Rattle.event_run.proofs.running.power_sum.Goals.{then-set-task, else-set-tas
 pub loop-task-init : goal.loop-task-init
 loop-task-init c = sym (powers_none (λ t. get_or c.args.set.now t false))
 
-pub overflow-add-sum : goal.overflow-add-sum
-overflow-add-sum c = Fits-bits 64 tt (sum_fits (λ t. get_or c.args.set.now t false) c.loop-task.task c.loop-task.sum c.loop-task-test.true c.loop-task.invariant)
+pub overflow_add-sum : goal.overflow_add-sum
+overflow_add-sum c = Fits-bits 64 tt (sum_fits (λ t. get_or c.args.set.now t false) c.loop-task.task c.loop-task.sum c.loop-task-test.true c.loop-task.invariant)
 
 pub loop-task-preserved : goal.loop-task-preserved
 loop-task-preserved c =

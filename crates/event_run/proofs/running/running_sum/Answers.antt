@@ -8,4 +8,4 @@ pub returns-in-Some : goal.returns-in-Some
 returns-in-Some g c =
     let k = c.args.kernel.now in
     let found = c.in-Some.ensures in
-    running_powers (λ t. get_or c.in-Some.set t false) (running (state_of k).jobs (facts_of k).cores) (facts_of k).checked c.power-sum.result c.power-sum.ensures found.0 found.1
+    running_powers (λ t. get_or c.in-Some.set t false) (running (state_of k).jobs (facts_of k).cores) (facts_of k).checked c.power_sum.result c.power_sum.ensures found.0 found.1

@@ -9,7 +9,7 @@ returns g c =
     let f = c.args.facts in
     let made = c.start-kernel in
     let ok = refl {a = true} in
-    ran g.O.Order g.K.KeyKind g.K.EventKind.read f.cores f.tasks f.resources c.args.order (lines c.args.rest.now) made.result c.run-lines.new.kernel (record { output = c.add-resources.new.text; faults = c.run-lines.new.report.faults })
-    (string_bytes c.add-start.new.text) (string_bytes c.run-lines.new.report.output) (string_bytes c.add-tasks.new.text) (vec_items c.new-2.result) c.guarantee-stands.ensures (made.ensures.facts c.requires) made.ensures.order
-    (made.ensures.fresh c.requires) (c.in-ok-add-start.ensures ok ∙ ap (λ x. x ++ start_row 0) c.new.ensures.bytes) c.new-2.ensures.items (c.in-ok-run-lines.ensures ok) (c.in-ok-add-tasks.ensures ok)
-    (c.in-ok-add-resources.ensures ok)
+    ran g.O.Order g.K.KeyKind g.K.EventKind.read f.cores f.tasks f.resources c.args.order (lines c.args.rest.now) made.result c.run_lines.new.kernel (record { output = c.add_resources.new.text; faults = c.run_lines.new.report.faults })
+    (string_bytes c.add_start.new.text) (string_bytes c.run_lines.new.report.output) (string_bytes c.add_tasks.new.text) (vec_items c.new-2.result) c.guarantee_stands.ensures (made.ensures.facts c.requires) made.ensures.order
+    (made.ensures.fresh c.requires) (c.in-ok-add_start.ensures ok ∙ ap (λ x. x ++ start_row 0) c.new.ensures.bytes) c.new-2.ensures.items (c.in-ok-run_lines.ensures ok) (c.in-ok-add_tasks.ensures ok)
+    (c.in-ok-add_resources.ensures ok)

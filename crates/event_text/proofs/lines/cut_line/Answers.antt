@@ -7,8 +7,8 @@ pub returns-then-bytes-eq0 : goal.returns-then-bytes-eq0
 returns-then-bytes-eq0 c = nil_from_length c.args.bytes.now (search rules)
 
 pub returns-then-end-bytes : goal.returns-then-end-bytes
-returns-then-end-bytes c = line_ends c.args.bytes.now c.place-of-end.result c.place-of-end.ensures.place (search rules)
+returns-then-end-bytes c = line_ends c.args.bytes.now c.place_of-end.result c.place_of-end.ensures.place (search rules)
 
 pub returns-else-end-bytes : goal.returns-else-end-bytes
 returns-else-end-bytes c =
-    file_ends c.args.bytes.now c.place-of-end.result c.place-of-end.ensures.place (search rules) (search rules) (search rules)
+    file_ends c.args.bytes.now c.place_of-end.result c.place_of-end.ensures.place (search rules) (search rules) (search rules)

@@ -16,14 +16,14 @@ loop-i-preserved g c =
     subst (λ (b : Bool). Sofar c.args.form c.args.line.now (c.loop-i.i + 1) b (set c.loop-i.numbers c.loop-i.i c.in-Some.found.number) c.in-Some.found.next) (sym both)
     (one_more c.args.form c.args.line.now c.loop-i.i c.loop-i.fit c.loop-i.numbers _ c.loop-i.next c.loop-i.invariant (search rules) c.in-Some.found c.in-Some.ensures)
 
-pub returns-then-is-some : goal.returns-then-is-some
-returns-then-is-some g c =
-    more_fields c.args.form c.args.line.now c.loop-i.i c.loop-i.numbers c.loop-i.fit c.loop-i.next c.if-is-some.ensures c.loop-i.invariant (search rules)
+pub returns-then-is_some : goal.returns-then-is_some
+returns-then-is_some g c =
+    more_fields c.args.form c.args.line.now c.loop-i.i c.loop-i.numbers c.loop-i.fit c.loop-i.next c.if-is_some.ensures c.loop-i.invariant (search rules)
 
 pub returns-then-fit-2 : goal.returns-then-fit-2
 returns-then-fit-2 g c =
-    each_fits c.args.form c.args.line.now c.loop-i.i c.loop-i.numbers c.loop-i.fit c.loop-i.next c.if-is-some.ensures c.if-fit-2.true c.loop-i.invariant (search rules)
+    each_fits c.args.form c.args.line.now c.loop-i.i c.loop-i.numbers c.loop-i.fit c.loop-i.next c.if-is_some.ensures c.if-fit-2.true c.loop-i.invariant (search rules)
 
 pub returns-else-fit-2 : goal.returns-else-fit-2
 returns-else-fit-2 g c =
-    one_unfit c.args.form c.args.line.now c.loop-i.i c.loop-i.numbers c.loop-i.fit c.loop-i.next c.if-is-some.ensures c.if-fit-2.false c.loop-i.invariant (search rules)
+    one_unfit c.args.form c.args.line.now c.loop-i.i c.loop-i.numbers c.loop-i.fit c.loop-i.next c.if-is_some.ensures c.if-fit-2.false c.loop-i.invariant (search rules)

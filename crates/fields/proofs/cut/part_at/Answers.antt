@@ -8,4 +8,4 @@ pub returns-then-at-line : goal.returns-then-at-line
 returns-then-at-line c = past_end c.args.line.now c.args.at (search rules)
 
 pub returns : goal.returns
-returns c = c.first-part.ensures ∙ ap first_part (take_rest c.args.line.now c.args.at)
+returns c = c.first_part.ensures ∙ ap first_part (take_rest c.args.line.now c.args.at)

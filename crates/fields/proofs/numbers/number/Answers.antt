@@ -2,11 +2,11 @@ use Rattle.std.proofs.Common.{sym, ◌∙◌, arith, rules}
 use Rattle.fields.proofs.Values.{digit_low, a_digit, value_step, too_large, read_all}
 use Rattle.fields.proofs.numbers.number.Goals as goal
 
-pub overflow-sub-value : goal.overflow-sub-value
-overflow-sub-value c = digit_low c.args.text.now c.loop-byte.byte-index (search rules) c.loop-byte.invariant.2
+pub overflow_sub-value : goal.overflow_sub-value
+overflow_sub-value c = digit_low c.args.text.now c.loop-byte.byte-index (search rules) c.loop-byte.invariant.2
 
-pub returns-then-is-too-large : goal.returns-then-is-too-large
-returns-then-is-too-large c = too_large c.args.text.now c.loop-byte.byte-index c.loop-byte.value (search rules) c.loop-byte.invariant.1 (search rules)
+pub returns-then-is_too_large : goal.returns-then-is_too_large
+returns-then-is_too_large c = too_large c.args.text.now c.loop-byte.byte-index c.loop-byte.value (search rules) c.loop-byte.invariant.1 (search rules)
 
 pub loop-byte-preserved : goal.loop-byte-preserved
 loop-byte-preserved c = (

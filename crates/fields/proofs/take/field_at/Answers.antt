@@ -6,16 +6,16 @@ use Rattle.fields.proofs.take.field_at.Goals as goal
 
 pub returns-in-default : goal.returns-in-default
 returns-in-default c =
-    not_taken c.args.line.now c.args.at c.args.wanted c.part-at-part.result.now c.part-at-part.ensures c.in-default.ensures
+    not_taken c.args.line.now c.args.at c.args.wanted c.part_at-part.result.now c.part_at-part.ensures c.in-default.ensures
 
-pub returns-then-is-number : goal.returns-then-is-number
-returns-then-is-number c =
-    taken c.args.line.now c.args.at c.args.wanted c.part-at-part.result.now c.part-at-part.ensures c.in-Some.value.now true c.in-Some.ensures c.if-is-number.ensures
+pub returns-then-is_number : goal.returns-then-is_number
+returns-then-is_number c =
+    taken c.args.line.now c.args.at c.args.wanted c.part_at-part.result.now c.part_at-part.ensures c.in-Some.value.now true c.in-Some.ensures c.if-is_number.ensures
 
-pub returns-else-is-number : goal.returns-else-is-number
-returns-else-is-number c =
-    taken c.args.line.now c.args.at c.args.wanted c.part-at-part.result.now c.part-at-part.ensures c.in-Some.value.now false c.in-Some.ensures c.if-is-number.ensures
+pub returns-else-is_number : goal.returns-else-is_number
+returns-else-is_number c =
+    taken c.args.line.now c.args.at c.args.wanted c.part_at-part.result.now c.part_at-part.ensures c.in-Some.value.now false c.in-Some.ensures c.if-is_number.ensures
 
-pub overflow-sub-name : goal.overflow-sub-name
-overflow-sub-name c =
-    omega (arith, after_whole (name_text c.args.wanted) c.part-at-part.result.now c.in-Some.value.now (sym c.in-Some.ensures))
+pub overflow_sub-name : goal.overflow_sub-name
+overflow_sub-name c =
+    omega (arith, after_whole (name_text c.args.wanted) c.part_at-part.result.now c.in-Some.value.now (sym c.in-Some.ensures))

@@ -3,8 +3,8 @@ use Rattle.orders.proofs.Answered.{asked_some}
 use Rattle.orders.specs.Services.{meaning}
 use Rattle.gate.proofs.serve.delay_by.Goals as goal
 
-pub overflow-add-result : goal.overflow-add-result
-overflow-add-result g c =
+pub overflow_add-result : goal.overflow_add-result
+overflow_add-result g c =
     let v = meaning g.L.Order c.args.lower.now in
     let rules = g.met.L.Order.rules c.args.lower.now in
     let a = asked_some (v.queued c.args.resource c.args.rival) (v.count c.args.resource c.args.rival) c.in-Some-count.n c.in-Some-count.ensures in

@@ -8,8 +8,8 @@ use Rattle.gate.proofs.serve.size_of.Goals.{then-queued, else-queued}
 pub loop-t-init : goal.loop-t-init
 loop-t-init g c = tally_zero_steps _
 
-pub overflow-add-n : goal.overflow-add-n
-overflow-add-n g c = let t = tally_top ((meaning g.L.Order c.args.lower.now).queued c.args.resource) c.loop-t.t in omega arith
+pub overflow_add-n : goal.overflow_add-n
+overflow_add-n g c = let t = tally_top ((meaning g.L.Order c.args.lower.now).queued c.args.resource) c.loop-t.t in omega arith
 
 pub loop-t-preserved : goal.loop-t-preserved
 loop-t-preserved g c =

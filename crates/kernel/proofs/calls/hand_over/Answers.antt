@@ -7,14 +7,14 @@ use Rattle.kernel.proofs.Taking.{handed_none, handed_some, handed_out}
 use Rattle.kernel.proofs.calls.hand_over.Goals as goal
 
 pub returns-in-default : goal.returns-in-default
-returns-in-default c = handed_none c.args.board.now c.start-hold.new.self c.args.next c.args.held.number c.in-default.is c.start-hold.ensures
+returns-in-default c = handed_none c.args.board.now c.start_hold.new.self c.args.next c.args.held.number c.in-default.is c.start_hold.ensures
 
 pub returns-in-default-new : goal.returns-in-default-new
 returns-in-default-new c = handed_out c.args.next c.in-Some.task c.in-Some.is c.requires c.in-default-new.ensures
 
 pub returns : goal.returns
 returns c =
-    let mid = c.start-hold.new.self in
+    let mid = c.start_hold.new.self in
     let r = c.args.held.number in
-    handed_some c.args.board.now mid c.grant.new.self c.args.next c.in-Some.task r c.in-Some.is c.start-hold.ensures
+    handed_some c.args.board.now mid c.grant.new.self c.args.next c.in-Some.task r c.in-Some.is c.start_hold.ensures
     (subst (λ (u : ℕ). Put mid u (turned (row mid u) (Holding r)) c.grant.new.self) c.in-Some-new.ensures c.grant.ensures)

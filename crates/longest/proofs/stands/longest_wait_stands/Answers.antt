@@ -9,9 +9,9 @@ returns g c =
     record {
       longest = λ m n r d o s h low high wide top any few ranged new leads listed.
           outcome kind m n r d low high wide top any few ranged o new
-          (λ h s l. c.guarantee-stands.ensures (record { checked = true; cores = m; tasks = n; resources = r }) _ s h (made_fresh m o low high new kind n r (omega arith) top any few) l)
+          (λ h s l. c.guarantee_stands.ensures (record { checked = true; cores = m; tasks = n; resources = r }) _ s h (made_fresh m o low high new kind n r (omega arith) top any few) l)
           h s leads listed;
       fresh = λ m n r o low high one top any few new. made_fresh m o low high new kind n r one top any few;
       reach = fresh_reach kind;
-      told = λ f start s h new leads t. omega (arith, (c.guarantee-stands.ensures f start s h new leads).reached t, fresh_reach kind f start new);
+      told = λ f start s h new leads t. omega (arith, (c.guarantee_stands.ensures f start s h new leads).reached t, fresh_reach kind f start new);
     }

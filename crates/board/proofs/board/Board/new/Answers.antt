@@ -6,8 +6,8 @@ use Rattle.board.specs.Boards.{blank, unheld}
 use Rattle.board.proofs.Kept.{fresh, new_known, new_counted, new_runs, new_blocks, new_short, new_brief}
 use Rattle.board.proofs.board.Board.new.Goals as goal
 
-pub invariant-of-result : goal.invariant-of-result
-invariant-of-result c =
+pub invariant_of-result : goal.invariant_of-result
+invariant_of-result c =
     let rows : List TaskRecord = replicate 64 c.new.result in
     let holds : List ResourceRecord = replicate 32 c.new-2.result in
     let nobody : List Bool = replicate 64 false in

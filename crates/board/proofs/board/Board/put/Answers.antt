@@ -10,14 +10,14 @@ recount-requires c =
     let s = c.args.self.now in
     record { known = search rules; counted = subst (λ (rows : List TaskRecord). Counted rows s.ahead) (sym (set_back s.rows c.get-t.result c.args.new blank)) s.counted }
 
-pub running-set-self-requires : goal.running-set-self-requires
-running-set-self-requires c =
+pub running_set-self-requires : goal.running_set-self-requires
+running_set-self-requires c =
     let s = c.args.self.now in
     let in_table : c.get-t.result < length s.rows = search rules in
     record { known = set_all (λ y. named y.state ≡ true) s.rows c.get-t.result c.args.new blank in_table c.requires.named s.known; counted = c.recount.ensures }
 
-pub invariant-of-self : goal.invariant-of-self
-invariant-of-self c =
+pub invariant_of-self : goal.invariant_of-self
+invariant_of-self c =
     let s = c.args.self.now in
     let t = c.get-t.result in
     let x = c.args.new in
@@ -28,9 +28,9 @@ invariant-of-self c =
         (
           c.recount.ensures,
           (
-            c.running-set-self.ensures,
+            c.running_set-self.ensures,
             (
-              c.blocked-set-self.ensures,
+              c.blocked_set-self.ensures,
               (
                 set_all (λ y. y.blocked ≤ s.now) s.rows t x blank in_table c.requires.short s.short,
                 (s.brief, tt),

@@ -5,8 +5,8 @@ use Rattle.first_come.specs.Firsts.{neat_of}
 use Rattle.orders.proofs.Answered.{asked_some}
 use Rattle.double_line.proofs.serve.DoubleLineOrder.count.Goals as goal
 
-pub overflow-mul-result : goal.overflow-mul-result
-overflow-mul-result c =
+pub overflow_mul-result : goal.overflow_mul-result
+overflow_mul-result c =
     let l = c.args.self.now.line in
     let r = c.args.resource in
     let t = c.args.task in

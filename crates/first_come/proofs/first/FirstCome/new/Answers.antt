@@ -2,8 +2,8 @@ use Rattle.std.proofs.Common.{refl}
 use Rattle.first_come.specs.Firsts.{fresh_fits, fresh_sound, fresh_nobody}
 use Rattle.first_come.proofs.first.FirstCome.new.Goals as goal
 
-pub invariant-of-result : goal.invariant-of-result
-invariant-of-result c =
+pub invariant_of-result : goal.invariant_of-result
+invariant_of-result c =
     let p = c.fitting-places.result in
     (c.fitting-places.ensures.few, (fresh_fits p, (λ r. (fresh_sound r).whole, (λ r. (fresh_sound r).neat, (λ r. (fresh_sound r).seated, tt)))))
 

@@ -3,8 +3,8 @@ use Rattle.first_come.specs.Lines.{empty}
 use Rattle.first_come.specs.Firsts.{sound_set, fits_set, joined_fits}
 use Rattle.first_come.proofs.serve.FirstComeOrder.admit.Goals as goal
 
-pub invariant-of-self : goal.invariant-of-self
-invariant-of-self c =
+pub invariant_of-self : goal.invariant_of-self
+invariant_of-self c =
     let s = c.args.self.now in
     let r = c.args.resource in
     let l = c.join.new.self in

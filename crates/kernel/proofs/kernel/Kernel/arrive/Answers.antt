@@ -22,15 +22,15 @@ returns-in-Err-may g c =
     let known : n < k.limits.tasks = omega (arith, found.1, found.2) in
     subst (λ (t : ℕ). Took o kind k (Arrive t c.args.declared) (Err c.in-Err-may.why) k) found.2 (arrive_refused o kind k n found.0 known c.args.declared c.in-Err-may.why (verdict_err _ _ c.in-Err-may.ensures))
 
-pub returns-in-default-code-at : goal.returns-in-default-code-at
-returns-in-default-code-at g c =
+pub returns-in-default-code_at : goal.returns-in-default-code_at
+returns-in-default-code_at g c =
     let o = g.O.Order in
     let kind = g.K.KeyKind in
     let k = c.args.self.now in
     let n = c.in-Ok.no.number in
     let found = c.in-Ok.ensures in
     let known : n < k.limits.tasks = omega (arith, found.1, found.2) in
-    subst (λ (t : ℕ). Took o kind k (Arrive t c.args.declared) (Err OutOfRange) k) found.2 (arrive_out o kind k n found.0 known c.args.declared (verdict_ok _ _ c.in-default.ensures) (out_of_range _ _ c.in-default-code-at.ensures))
+    subst (λ (t : ℕ). Took o kind k (Arrive t c.args.declared) (Err OutOfRange) k) found.2 (arrive_out o kind k n found.0 known c.args.declared (verdict_ok _ _ c.in-default.ensures) (out_of_range _ _ c.in-default-code_at.ensures))
 
 pub returns : goal.returns
 returns g c =

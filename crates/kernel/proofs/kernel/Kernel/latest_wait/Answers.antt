@@ -7,5 +7,5 @@ returns g c =
     let k = c.args.self.now in
     record {
       told = c.wait.ensures;
-      within = λ w start h is fresh leads. waited g.O.Order g.K.KeyKind k c.args.task start h (c.guarantee-stands.ensures (facts_of k) start (state_of k) h fresh leads) c.wait.result w c.wait.ensures is;
+      within = λ w start h is fresh leads. waited g.O.Order g.K.KeyKind k c.args.task start h (c.guarantee_stands.ensures (facts_of k) start (state_of k) h fresh leads) c.wait.result w c.wait.ensures is;
     }

@@ -34,8 +34,8 @@ returns-in-Err-pass g c =
     subst (λ (t : ℕ). Took o kind k (Release t) (Err (Order word)) (after o kind k k.board q)) found.2
     (release_kept o kind k n found.0 known (verdict_ok _ _ c.in-default.ensures) c.in-Some.held.number word q c.in-Some.ensures a (g.met.O.Order.unpassed k.order c.in-Some.held.number word q a))
 
-pub hand-over-requires : goal.hand-over-requires
-hand-over-requires g c =
+pub hand_over-requires : goal.hand_over-requires
+hand_over-requires g c =
     let m = g.met.O.Order in
     next_below g.O.Order (record { rules = m.rules; admitting = m.admitting; passing = m.passing; unadmitted = m.unadmitted; unpassed = m.unpassed }) c.args.self.now.order c.pass.new.self c.get.result c.in-Ok-pass.next c.in-Ok-pass.ensures
 
@@ -52,5 +52,5 @@ returns g c =
     let next = c.in-Ok-pass.next in
     let free = verdict_ok _ _ c.in-default.ensures in
     let a = subst (λ (x : ℕ). o.passed k.order x (Ok next) q) c.get.ensures c.in-Ok-pass.ensures in
-    subst (λ (t : ℕ). Took o kind k (Release t) (handed (Ok next)) (after o kind k c.hand-over.new.board q)) found.2
-    (release_took o kind k n found.0 known free r next q c.step.new.self c.hand-over.new.board c.in-Some.ensures a (stepped_put _ _ _ _ _ free c.step.ensures.left) c.hand-over.ensures)
+    subst (λ (t : ℕ). Took o kind k (Release t) (handed (Ok next)) (after o kind k c.hand_over.new.board q)) found.2
+    (release_took o kind k n found.0 known free r next q c.step.new.self c.hand_over.new.board c.in-Some.ensures a (stepped_put _ _ _ _ _ free c.step.ensures.left) c.hand_over.ensures)

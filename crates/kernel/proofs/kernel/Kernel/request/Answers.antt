@@ -65,7 +65,7 @@ returns g c =
     let at_n = subst (λ (x : ℕ). o.admitted k.order r n x (Ok tt) q) (ap (λ y. y.code) c.record-own.ensures) (subst (λ (t : ℕ). o.admitted k.order r t c.record-own.result.code (Ok tt) q) (sym found.2) a) in
     let queued : o.queue q r n ≡ true = subst (λ (x : ℕ). o.queue q r x ≡ true) (sym found.2) ((g.met.O.Order.admitting k.order r t c.record-own.result.code (Ok tt) q a).joined refl).queued in
     let free = verdict_ok _ _ c.in-default.ensures in
-    let told : c.told-by-told.result ≡ o.count q r n = c.told-by-told.ensures ∙ ap or_zero (subst (λ (x : ℕ). asked (o.queue q r x) (o.count q r x) ≡ Some (o.count q r n)) found.2 (ap (λ b. asked b (o.count q r n)) queued)) in
-    let fits : c.granted-by-granted.result ≡ is_it (o.holder q r) n = c.granted-by-granted.ensures ∙ ap (is_it (o.holder q r)) (sym found.2) in
-    subst (λ (x : ℕ). Took o kind k (Request x r) (counted (Ok c.told-by-told.result)) (after o kind k c.step.new.self q)) found.2
-    (request_took o kind k n found.0 known c.in-Ok-resource.wanted false 0 r c.in-Ok-resource.ensures.0 free q c.told-by-told.result c.in-Ok-resource.wanted.number c.granted-by-granted.result (o.holder q r) c.step.new.self at_n refl fits told c.in-Ok-resource.ensures.1 (stepped_put _ _ _ _ _ free c.step.ensures.left))
+    let told : c.told_by-told.result ≡ o.count q r n = c.told_by-told.ensures ∙ ap or_zero (subst (λ (x : ℕ). asked (o.queue q r x) (o.count q r x) ≡ Some (o.count q r n)) found.2 (ap (λ b. asked b (o.count q r n)) queued)) in
+    let fits : c.granted_by-granted.result ≡ is_it (o.holder q r) n = c.granted_by-granted.ensures ∙ ap (is_it (o.holder q r)) (sym found.2) in
+    subst (λ (x : ℕ). Took o kind k (Request x r) (counted (Ok c.told_by-told.result)) (after o kind k c.step.new.self q)) found.2
+    (request_took o kind k n found.0 known c.in-Ok-resource.wanted false 0 r c.in-Ok-resource.ensures.0 free q c.told_by-told.result c.in-Ok-resource.wanted.number c.granted_by-granted.result (o.holder q r) c.step.new.self at_n refl fits told c.in-Ok-resource.ensures.1 (stepped_put _ _ _ _ _ free c.step.ensures.left))
