@@ -22,6 +22,6 @@ pub struct Board {
     ghost counted: { Counted rows ahead },
     ghost runs: { Run rows cores running },
     ghost blocks: { Blocked rows cores blocked },
-    ghost short: { (t : ℕ) → (slice_index_or rows t blank).blocked ≤ (λ x. x.now) },
-    ghost brief: { (r : ℕ) → (slice_index_or holds r unheld).used ≤ (λ x. x.now) },
+    ghost short: { (t : ℕ) → (slice_index_or rows t blank).blocked ≤ now },
+    ghost brief: { (r : ℕ) → (slice_index_or holds r unheld).used ≤ now },
 }

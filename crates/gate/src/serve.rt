@@ -1,5 +1,6 @@
 ghost use Rattle.std.specs.Prelude.{◌≡◌, ℕ, ◌+◌, ◌*◌, ◌<◌, ◌≤◌, Bool, true, false, not, ◌&&◌, ◌||◌, if◌then◌else◌, ◌==◌, refl};
 ghost use Rattle.orders.specs.Counting.{ahead as Ahead};
+ghost use Rattle.orders.specs.declared.order.Order.{Ghosts};
 ghost use Rattle.orders.specs.Orders.{size};
 ghost use Rattle.orders.specs.Services.{meaning, Lawful};
 ghost use Rattle.orders.specs.Gating.{fit, idle, inside, against, delay as Delay, behind as Behind};
@@ -217,21 +218,18 @@ impl<L: Order> Order for Gate<L> {
     ghost passed = { GatePassed L.Order };
 
     ghost rules = { λ s.
-        let o = L.Order in
-        let m = L.Order in
-        let laws : Lawful o = record { rules = m.rules; admitting = m.admitting; passing = m.passing; unadmitted = m.unadmitted; unpassed = m.unpassed } in
+        let o : Ghosts L = record { width = L.Order.width; places = L.Order.places; reach = L.Order.reach; queue = L.Order.queue; holder = L.Order.holder; code = L.Order.code; count = L.Order.count; covered = L.Order.covered; admitted = L.Order.admitted; passed = L.Order.passed } in
+        let laws : Lawful o = record { rules = L.Order.rules; admitting = L.Order.admitting; passing = L.Order.passing; unadmitted = L.Order.unadmitted; unpassed = L.Order.unpassed } in
         gate_rules o laws s };
 
     ghost admitting = { λ s r t c a z h.
-        let o = L.Order in
-        let m = L.Order in
-        let laws : Lawful o = record { rules = m.rules; admitting = m.admitting; passing = m.passing; unadmitted = m.unadmitted; unpassed = m.unpassed } in
+        let o : Ghosts L = record { width = L.Order.width; places = L.Order.places; reach = L.Order.reach; queue = L.Order.queue; holder = L.Order.holder; code = L.Order.code; count = L.Order.count; covered = L.Order.covered; admitted = L.Order.admitted; passed = L.Order.passed } in
+        let laws : Lawful o = record { rules = L.Order.rules; admitting = L.Order.admitting; passing = L.Order.passing; unadmitted = L.Order.unadmitted; unpassed = L.Order.unpassed } in
         gate_admits o laws s r t c a z h };
 
     ghost passing = { λ s r a z h.
-        let o = L.Order in
-        let m = L.Order in
-        let laws : Lawful o = record { rules = m.rules; admitting = m.admitting; passing = m.passing; unadmitted = m.unadmitted; unpassed = m.unpassed } in
+        let o : Ghosts L = record { width = L.Order.width; places = L.Order.places; reach = L.Order.reach; queue = L.Order.queue; holder = L.Order.holder; code = L.Order.code; count = L.Order.count; covered = L.Order.covered; admitted = L.Order.admitted; passed = L.Order.passed } in
+        let laws : Lawful o = record { rules = L.Order.rules; admitting = L.Order.admitting; passing = L.Order.passing; unadmitted = L.Order.unadmitted; unpassed = L.Order.unpassed } in
         gate_passes o laws s r a z h };
 
     ghost unadmitted = { λ s r t c e z h. h.refused e refl };

@@ -4,9 +4,9 @@ use Rattle.field_names.proofs.Afters.{after_whole}
 use Rattle.fields.proofs.Takes.{not_taken, taken}
 use Rattle.fields.proofs.take.field_at.Goals as goal
 
-pub returns-in-default : goal.returns-in-default
-returns-in-default c =
-    not_taken c.args.line.now c.args.at c.args.wanted c.part_at-part.result.now c.part_at-part.ensures c.in-default.ensures
+pub returns-in_default : goal.returns-in_default
+returns-in_default c =
+    not_taken c.args.line.now c.args.at c.args.wanted c.part_at-part.result.now c.part_at-part.ensures c.in_default.ensures
 
 pub returns-then-is_number : goal.returns-then-is_number
 returns-then-is_number c =

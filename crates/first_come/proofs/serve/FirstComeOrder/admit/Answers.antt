@@ -11,16 +11,11 @@ invariant_of-self c =
     let o = c.join.ensures.sound in
     let b : r < length s.lines = search rules in
     let room : (get_or s.lines r empty).len ≡ s.places → ⊥ = λ e. c.if-length-self.false (c.length.ensures.long ∙ e) in
-    let fits = joined_fits s r l (record { task = c.args.task; code = c.args.urgency }) room o c.join.ensures.line in (
-      s.few,
-      (
-        fits_set s r l b fits,
-        (
-          λ k. (sound_set s r l b o k).whole,
-          (
-            λ k. (sound_set s r l b o k).neat,
-            (λ k. (sound_set s r l b o k).seated, tt),
-          ),
-        ),
-      ),
-    )
+    let fits = joined_fits s r l (record { task = c.args.task; code = c.args.urgency }) room o c.join.ensures.line in
+    record {
+      few = s.few;
+      fits = fits_set s r l b fits;
+      whole = λ k. (sound_set s r l b o k).whole;
+      neat = λ k. (sound_set s r l b o k).neat;
+      seated = λ k. (sound_set s r l b o k).seated;
+    }
