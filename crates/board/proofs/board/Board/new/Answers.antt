@@ -12,25 +12,16 @@ invariant_of-result c =
     let holds : List ResourceRecord = replicate 32 c.new-2.result in
     let nobody : List Bool = replicate 64 false in
     let idle : (k : ℕ) → get_or rows k blank ≡ blank = fresh 64 c.new.result blank c.new.ensures in
-    let none : (k : ℕ) → get_or nobody k false ≡ false = fresh 64 false false refl in (
-      length-replicate 64 c.new.result,
-      (
-        new_known rows idle,
-        (
-          new_counted rows idle (replicate 64 0) (fresh 64 0 0 refl),
-          (
-            new_runs rows idle c.args.cores nobody none,
-            (
-              new_blocks rows idle c.args.cores nobody none,
-              (
-                new_short rows idle,
-                (new_brief holds (fresh 32 c.new-2.result unheld c.new-2.ensures), tt),
-              ),
-            ),
-          ),
-        ),
-      ),
-    )
+    let none : (k : ℕ) → get_or nobody k false ≡ false = fresh 64 false false refl in
+    record {
+      long = length-replicate 64 c.new.result;
+      known = new_known rows idle;
+      counted = new_counted rows idle (replicate 64 0) (fresh 64 0 0 refl);
+      runs = new_runs rows idle c.args.cores nobody none;
+      blocks = new_blocks rows idle c.args.cores nobody none;
+      short = new_short rows idle;
+      brief = new_brief holds (fresh 32 c.new-2.result unheld c.new-2.ensures);
+    }
 
 pub returns : goal.returns
 returns c = record {

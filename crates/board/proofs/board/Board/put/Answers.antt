@@ -21,22 +21,13 @@ invariant_of-self c =
     let s = c.args.self.now in
     let t = c.get-t.result in
     let x = c.args.new in
-    let in_table : t < length s.rows = search rules in (
-      length-set s.rows t x ∙ s.long,
-      (
-        set_all (λ y. named y.state ≡ true) s.rows t x blank in_table c.requires.named s.known,
-        (
-          c.recount.ensures,
-          (
-            c.running_set-self.ensures,
-            (
-              c.blocked_set-self.ensures,
-              (
-                set_all (λ y. y.blocked ≤ s.now) s.rows t x blank in_table c.requires.short s.short,
-                (s.brief, tt),
-              ),
-            ),
-          ),
-        ),
-      ),
-    )
+    let in_table : t < length s.rows = search rules in
+    record {
+      long = length-set s.rows t x ∙ s.long;
+      known = set_all (λ y. named y.state ≡ true) s.rows t x blank in_table c.requires.named s.known;
+      counted = c.recount.ensures;
+      runs = c.running_set-self.ensures;
+      blocks = c.blocked_set-self.ensures;
+      short = set_all (λ y. y.blocked ≤ s.now) s.rows t x blank in_table c.requires.short s.short;
+      brief = s.brief;
+    }

@@ -6,25 +6,16 @@ pub invariant_of-self : goal.invariant_of-self
 invariant_of-self c =
     let s = c.args.self.now in
     let after = c.tick_tasks-used.new.rows in
-    let done = c.tick_tasks-used.ensures.rows in (
-      done.long ∙ s.long,
-      (
-        ticked_known s.rows after s.cores s.running s.blocked done s.known,
-        (
-          ticked_counted s.rows after s.cores s.running s.blocked done s.ahead s.counted,
-          (
-            ticked_runs s.rows after s.cores s.running s.blocked done s.runs,
-            (
-              ticked_blocks s.rows after s.cores s.running s.blocked done s.blocks,
-              (
-                ticked_short s.rows after s.cores s.running s.blocked done s.now s.short,
-                (ticked_brief s.holds c.tick_holds.new.holds c.tick_tasks-used.result c.tick_holds.ensures s.now s.brief, tt),
-              ),
-            ),
-          ),
-        ),
-      ),
-    )
+    let done = c.tick_tasks-used.ensures.rows in
+    record {
+      long = done.long ∙ s.long;
+      known = ticked_known s.rows after s.cores s.running s.blocked done s.known;
+      counted = ticked_counted s.rows after s.cores s.running s.blocked done s.ahead s.counted;
+      runs = ticked_runs s.rows after s.cores s.running s.blocked done s.runs;
+      blocks = ticked_blocks s.rows after s.cores s.running s.blocked done s.blocks;
+      short = ticked_short s.rows after s.cores s.running s.blocked done s.now s.short;
+      brief = ticked_brief s.holds c.tick_holds.new.holds c.tick_tasks-used.result c.tick_holds.ensures s.now s.brief;
+    }
 
 pub returns : goal.returns
 returns c =
