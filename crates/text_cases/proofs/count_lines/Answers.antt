@@ -8,4 +8,4 @@ unfolding pieces
 none_left n m l e empty = omega (arith, ap (λ (k : List ℕ). length (lines k)) empty)
 
 pub returns : goal.returns
-returns c = none_left c.loop-rest.count _ c.loop-rest.left.now c.loop-rest.invariant.0 c.in-default.ensures
+returns c = none_left c.loop-rest.count _ c.loop-rest.left.now c.loop-rest.invariant.0 c.in_default.ensures

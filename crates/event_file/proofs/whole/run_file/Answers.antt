@@ -1,5 +1,5 @@
 use Rattle.event_file.proofs.Choosing.{empty_file}
 use Rattle.event_file.proofs.whole.run_file.Goals as goal
 
-pub returns-in-default : goal.returns-in-default
-returns-in-default c = empty_file c.args.bytes.now c.refuse-in-default.result c.in-default.ensures c.refuse-in-default.ensures
+pub returns-in_default : goal.returns-in_default
+returns-in_default c = empty_file c.args.bytes.now c.refuse-in_default.result c.in_default.ensures c.refuse-in_default.ensures

@@ -10,4 +10,4 @@ pub loop-resource-preserved : goal.loop-resource-preserved
 loop-resource-preserved g c =
     let s = state_of c.args.kernel.now in
     resources_more s.jobs.state s.longest (string_bytes c.args.text.now) c.args.tasks c.loop-resource.resource c.holder_of-holder.result c.longest_of-longest.result (string_bytes c.loop-resource.text) (string_bytes c.add_resource.new.text) c.holder_of-holder.ensures
-    c.longest_of-longest.ensures c.loop-resource.invariant (c.in-ok-add_resource.ensures (refl {a = true}))
+    c.longest_of-longest.ensures c.loop-resource.invariant (c.in_ok-add_resource.ensures (refl {a = true}))

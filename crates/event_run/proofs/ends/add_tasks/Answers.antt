@@ -11,4 +11,4 @@ loop-task-preserved g c =
     let s = state_of c.args.kernel.now in
     let found = c.standing-state in
     tasks_more s.jobs.state s.lost (string_bytes c.args.text.now) c.loop-task.task found.result.0 found.result.1 (string_bytes c.loop-task.text) (string_bytes c.add_task.new.text) (ap (λ x. x.0) found.ensures) (ap (λ x. x.1) found.ensures)
-    c.loop-task.invariant (c.in-ok-add_task.ensures (refl {a = true}))
+    c.loop-task.invariant (c.in_ok-add_task.ensures (refl {a = true}))

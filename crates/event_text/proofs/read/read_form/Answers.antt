@@ -6,9 +6,9 @@ use Rattle.event_text.proofs.read.read_form.Goals as goal
 pub loop-i-init : goal.loop-i-init
 loop-i-init g c = at_start c.args.form c.args.line.now (replicate g.row.N 0) (length-replicate g.row.N 0 ∙ search rules)
 
-pub returns-in-default : goal.returns-in-default
-returns-in-default g c =
-    absent c.args.form c.args.line.now c.loop-i.i c.loop-i.fit c.loop-i.numbers _ c.loop-i.next c.loop-i.invariant (search rules) c.in-default.ensures
+pub returns-in_default : goal.returns-in_default
+returns-in_default g c =
+    absent c.args.form c.args.line.now c.loop-i.i c.loop-i.fit c.loop-i.numbers _ c.loop-i.next c.loop-i.invariant (search rules) c.in_default.ensures
 
 pub loop-i-preserved : goal.loop-i-preserved
 loop-i-preserved g c =

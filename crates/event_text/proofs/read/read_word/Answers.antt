@@ -2,9 +2,9 @@ use Rattle.std.proofs.Common.{sym, refl, arith, rules}
 use Rattle.event_text.proofs.Cutout.{field_inside, word_found, number_no_word, number_token, word_token}
 use Rattle.event_text.proofs.read.read_word.Goals as goal
 
-pub returns-in-default-field : goal.returns-in-default-field
-returns-in-default-field c =
-    number_no_word c.args.line.now c.args.place c.args.wanted _ (number_token c.args.line.now c.args.place c.args.wanted c.in-Some.field c.in-default-field.field-0 c.in-default-field.field-1 c.in-default-field.field-2 c.in-Some.ensures c.in-default-field.is) c.args.word refl
+pub returns-in_default-field : goal.returns-in_default-field
+returns-in_default-field c =
+    number_no_word c.args.line.now c.args.place c.args.wanted _ (number_token c.args.line.now c.args.place c.args.wanted c.in-Some.field c.in_default-field.field-0 c.in_default-field.field-1 c.in_default-field.field-2 c.in-Some.ensures c.in_default-field.is) c.args.word refl
 
 pub overflow_add-at : goal.overflow_add-at
 overflow_add-at c =

@@ -6,11 +6,11 @@ use Rattle.jobs.specs.declared.state.TaskState.TheVariants.{Holding}
 use Rattle.kernel.proofs.Taking.{handed_none, handed_some, handed_out}
 use Rattle.kernel.proofs.calls.hand_over.Goals as goal
 
-pub returns-in-default : goal.returns-in-default
-returns-in-default c = handed_none c.args.board.now c.start_hold.new.self c.args.next c.args.held.number c.in-default.is c.start_hold.ensures
+pub returns-in_default : goal.returns-in_default
+returns-in_default c = handed_none c.args.board.now c.start_hold.new.self c.args.next c.args.held.number c.in_default.is c.start_hold.ensures
 
-pub returns-in-default-new : goal.returns-in-default-new
-returns-in-default-new c = handed_out c.args.next c.in-Some.task c.in-Some.is c.requires c.in-default-new.ensures
+pub returns-in_default-new : goal.returns-in_default-new
+returns-in_default-new c = handed_out c.args.next c.in-Some.task c.in-Some.is c.requires c.in_default-new.ensures
 
 pub returns : goal.returns
 returns c =

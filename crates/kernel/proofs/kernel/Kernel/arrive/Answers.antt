@@ -22,15 +22,15 @@ returns-in-Err-may g c =
     let known : n < k.limits.tasks = omega (arith, found.1, found.2) in
     subst (λ (t : ℕ). Took o kind k (Arrive t c.args.declared) (Err c.in-Err-may.why) k) found.2 (arrive_refused o kind k n found.0 known c.args.declared c.in-Err-may.why (verdict_err _ _ c.in-Err-may.ensures))
 
-pub returns-in-default-code_at : goal.returns-in-default-code_at
-returns-in-default-code_at g c =
+pub returns-in_default-code_at : goal.returns-in_default-code_at
+returns-in_default-code_at g c =
     let o = g.O.Order in
     let kind = g.K.KeyKind in
     let k = c.args.self.now in
     let n = c.in-Ok.no.number in
     let found = c.in-Ok.ensures in
     let known : n < k.limits.tasks = omega (arith, found.1, found.2) in
-    subst (λ (t : ℕ). Took o kind k (Arrive t c.args.declared) (Err OutOfRange) k) found.2 (arrive_out o kind k n found.0 known c.args.declared (verdict_ok _ _ c.in-default.ensures) (out_of_range _ _ c.in-default-code_at.ensures))
+    subst (λ (t : ℕ). Took o kind k (Arrive t c.args.declared) (Err OutOfRange) k) found.2 (arrive_out o kind k n found.0 known c.args.declared (verdict_ok _ _ c.in_default.ensures) (out_of_range _ _ c.in_default-code_at.ensures))
 
 pub returns : goal.returns
 returns g c =
@@ -41,7 +41,7 @@ returns g c =
     let found = c.in-Ok.ensures in
     let known : n < k.limits.tasks = omega (arith, found.1, found.2) in
     let d = c.args.declared in
-    let free = verdict_ok _ _ c.in-default.ensures in
+    let free = verdict_ok _ _ c.in_default.ensures in
     let a = asked_some (kind.ranged d) (kind.code (kind.key d c.now.result)) c.in-Some.code c.in-Some.ensures in
     subst (λ (t : ℕ). Took o kind k (Arrive t d) (done c.step.result) (after o kind k c.step.new.self k.order)) found.2
     (subst (λ (x : Result (Unit {0}) Refusal). Took o kind k (Arrive n d) (done x) (after o kind k c.step.new.self k.order)) (sym (c.step.ensures.told ∙ ap verdict free))

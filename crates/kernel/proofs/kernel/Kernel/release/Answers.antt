@@ -32,7 +32,7 @@ returns-in-Err-pass g c =
     let q = c.pass.new.self in
     let a = subst (λ (r : ℕ). o.passed k.order r (Err word) q) c.get.ensures c.in-Err-pass.ensures in
     subst (λ (t : ℕ). Took o kind k (Release t) (Err (Order word)) (after o kind k k.board q)) found.2
-    (release_kept o kind k n found.0 known (verdict_ok _ _ c.in-default.ensures) c.in-Some.held.number word q c.in-Some.ensures a (g.met.O.Order.unpassed k.order c.in-Some.held.number word q a))
+    (release_kept o kind k n found.0 known (verdict_ok _ _ c.in_default.ensures) c.in-Some.held.number word q c.in-Some.ensures a (g.met.O.Order.unpassed k.order c.in-Some.held.number word q a))
 
 pub hand_over-requires : goal.hand_over-requires
 hand_over-requires g c =
@@ -50,7 +50,7 @@ returns g c =
     let q = c.pass.new.self in
     let r = c.in-Some.held.number in
     let next = c.in-Ok-pass.next in
-    let free = verdict_ok _ _ c.in-default.ensures in
+    let free = verdict_ok _ _ c.in_default.ensures in
     let a = subst (λ (x : ℕ). o.passed k.order x (Ok next) q) c.get.ensures c.in-Ok-pass.ensures in
     subst (λ (t : ℕ). Took o kind k (Release t) (handed (Ok next)) (after o kind k c.hand_over.new.board q)) found.2
     (release_took o kind k n found.0 known free r next q c.step.new.self c.hand_over.new.board c.in-Some.ensures a (stepped_put _ _ _ _ _ free c.step.ensures.left) c.hand_over.ensures)

@@ -48,7 +48,7 @@ returns-in-Err-admit g c =
     let a = c.in-Err-admit.ensures in
     let at_n = subst (λ (x : ℕ). o.admitted k.order r n x (Err word) q) (ap (λ y. y.code) c.record-own.ensures) (subst (λ (t : ℕ). o.admitted k.order r t c.record-own.result.code (Err word) q) (sym found.2) a) in
     subst (λ (t : ℕ). Took o kind k (Request t r) (Err (Order word)) (after o kind k k.board q)) found.2
-    (request_kept o kind k n found.0 known c.in-Ok-resource.wanted false 0 r c.in-Ok-resource.ensures.0 (verdict_ok _ _ c.in-default.ensures) word q at_n (g.met.O.Order.unadmitted k.order r c.args.task c.record-own.result.code word q a))
+    (request_kept o kind k n found.0 known c.in-Ok-resource.wanted false 0 r c.in-Ok-resource.ensures.0 (verdict_ok _ _ c.in_default.ensures) word q at_n (g.met.O.Order.unadmitted k.order r c.args.task c.record-own.result.code word q a))
 
 pub returns : goal.returns
 returns g c =
@@ -61,10 +61,10 @@ returns g c =
     let r = c.args.resource in
     let t = c.args.task in
     let q = c.admit.new.self in
-    let a = c.in-default-admit.ensures in
+    let a = c.in_default-admit.ensures in
     let at_n = subst (λ (x : ℕ). o.admitted k.order r n x (Ok tt) q) (ap (λ y. y.code) c.record-own.ensures) (subst (λ (t : ℕ). o.admitted k.order r t c.record-own.result.code (Ok tt) q) (sym found.2) a) in
     let queued : o.queue q r n ≡ true = subst (λ (x : ℕ). o.queue q r x ≡ true) (sym found.2) ((g.met.O.Order.admitting k.order r t c.record-own.result.code (Ok tt) q a).joined refl).queued in
-    let free = verdict_ok _ _ c.in-default.ensures in
+    let free = verdict_ok _ _ c.in_default.ensures in
     let told : c.told_by-told.result ≡ o.count q r n = c.told_by-told.ensures ∙ ap or_zero (subst (λ (x : ℕ). asked (o.queue q r x) (o.count q r x) ≡ Some (o.count q r n)) found.2 (ap (λ b. asked b (o.count q r n)) queued)) in
     let fits : c.granted_by-granted.result ≡ is_it (o.holder q r) n = c.granted_by-granted.ensures ∙ ap (is_it (o.holder q r)) (sym found.2) in
     subst (λ (x : ℕ). Took o kind k (Request x r) (counted (Ok c.told_by-told.result)) (after o kind k c.step.new.self q)) found.2
