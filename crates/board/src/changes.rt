@@ -30,7 +30,7 @@ impl Board {
     pub(crate) fn put(&mut self, task: TaskNo, new: TaskRecord)
         requires named { named new.state ≡ true }
         requires short { new.blocked ≤ self.now.now }
-        ensures { Put self.entry.now task.number new self.exit.now }
+        ensures { Put self.old task.number new self.new }
     {
         let t = task.get() as usize;
         let old = self.rows[t];
@@ -42,7 +42,7 @@ impl Board {
 
     // A task's job comes to hold a resource: only its state changes.
     pub fn grant(&mut self, task: TaskNo, resource: ResourceNo)
-        ensures { Put self.entry.now task.number (turned (row self.entry.now task.number) (Holding resource.number)) self.exit.now }
+        ensures { Put self.old task.number (turned (row self.old task.number) (Holding resource.number)) self.new }
     {
         let mut new = self.record(task);
         new.state = TaskState::Holding(resource.get());
@@ -51,7 +51,7 @@ impl Board {
 
     // A hold of a resource begins.
     pub fn start_hold(&mut self, resource: ResourceNo)
-        ensures { PutHold self.entry.now resource.number (begun_hold (hold_of self.entry.now resource.number)) self.exit.now }
+        ensures { PutHold self.old resource.number (begun_hold (hold_of self.old resource.number)) self.new }
     {
         self.holds[resource.get() as usize].start();
     }
@@ -60,9 +60,9 @@ impl Board {
     // holder runs. Where the count of ticks is at its last number, it answers false
     // and nothing changes.
     pub fn tick(&mut self) -> bool
-        ensures told { result ≡ nat_lt self.entry.now.now 4294967295 }
-        ensures stays { result ≡ false → self.exit.now ≡ self.entry.now }
-        ensures goes { result ≡ true → Ticked self.entry.now self.exit.now }
+        ensures told { result ≡ nat_lt self.old.now 4294967295 }
+        ensures stays { result ≡ false → self.new ≡ self.old }
+        ensures goes { result ≡ true → Ticked self.old self.new }
     {
         if self.now == u32::MAX {
             return false;

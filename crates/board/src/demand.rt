@@ -1,6 +1,6 @@
 ghost use Rattle.std.specs.Prelude.{◌≡◌, ◌+◌, ◌<◌, ◌≤◌, ◌&&◌, if◌then◌else◌, slice_set};
 ghost use Rattle.orders.specs.Counting.{ahead as is_ahead};
-ghost use Rattle.jobs.specs.Jobs.{pending, demand as demand-of};
+ghost use Rattle.jobs.specs.Jobs.{pending, demand as demand_of};
 ghost use Rattle.board.specs.Boards.{jobs_of, Counted};
 
 use crate::record::TaskRecord;
@@ -24,7 +24,7 @@ fn is_before(rival: TaskRecord, i: usize, own: TaskRecord, k: usize) -> bool
 // How many pending jobs are ahead of the job of a task.
 fn demand(rows: &[TaskRecord; 64], task: usize) -> u32
     requires { task < 64 }
-    ensures { result ≡ demand-of (jobs_of rows.now) task }
+    ensures { result ≡ demand_of (jobs_of rows.now) task }
 {
     let own = rows[task];
     let mut before = 0;

@@ -1,8 +1,8 @@
 -- an order stays one when its counts and its reach are doubled
-use Rattle.std.specs.Prelude.{◌≡◌, ℕ, ◌+◌, ◌*◌, ◌<◌, ◌≤◌, true, Option, Result, refl}
+use Rattle.std.specs.Prelude.{◌≡◌, ℕ, ◌*◌, ◌≤◌, Option, Result}
 use Rattle.std.proofs.Common.{arith, ap}
 use Rattle.orders.specs.declared.refusal.OrderRefusal.{OrderRefusal}
-use Rattle.orders.specs.Orders.{Meaning, Rules, Kept, Fixed, Joined, Left, Admits, Passes}
+use Rattle.orders.specs.Orders.{Meaning, Rules, Kept, Fixed, Admits, Passes}
 use Rattle.double_line.specs.declared.double.DoubleLine.{DoubleLine}
 use Rattle.double_line.specs.Doubled.{doubled}
 

@@ -1,12 +1,10 @@
 -- what an accepted request leaves of its task
-use Rattle.std.proofs.Common.{◌≡◌, ℕ, suc, ◌<◌, Bool, true, false, cond, not, ◌&&◌, ◌||◌, eqb, ltb, Some, None, Ok, Err, Option, sym, refl, ap, ◌∙◌, subst, arith}
+use Rattle.std.proofs.Common.{◌≡◌, ℕ, suc, true, false, cond, ◌||◌, eqb, ltb, Some, None, Option, sym, refl, subst, arith}
 use Rattle.std.proofs.lemmas.Bool.{eq-eqb, and_from}
-use Rattle.jobs.specs.declared.state.TaskState.{TaskState}
 use Rattle.jobs.specs.declared.state.TaskState.TheVariants.{Waiting, Holding}
 use Rattle.jobs.specs.Jobs.{is_waiting, is_holding}
-use Rattle.runs.specs.declared.call.Call.TheVariants.{Request}
 use Rattle.runs.specs.Histories.{Event}
-use Rattle.runs.specs.Steps.{Kernel, State, Step, refusal, granted}
+use Rattle.runs.specs.Steps.{Kernel, State, Step, granted}
 use Rattle.driver.specs.Tokens.{is_on}
 
 -- a task that was admitted waits or holds

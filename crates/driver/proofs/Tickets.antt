@@ -1,5 +1,5 @@
 -- an open is a request, and its ticket is on
-use Rattle.std.proofs.Common.{◌≡◌, ℕ, suc, Bool, true, cond, ◌&&◌, ltb, List, [], ◌∷◌, Some, None, Ok, Result, sym, refl, ap, ◌∙◌, subst, inl}
+use Rattle.std.proofs.Common.{◌≡◌, ℕ, suc, true, cond, ◌&&◌, ltb, List, [], ◌∷◌, Some, None, Ok, Result, sym, refl, ap, ◌∙◌, subst, inl}
 use Rattle.std.proofs.lemmas.Bool.{and_from, eq-eqb}
 use Rattle.orders.specs.declared.order.Order.{Ghosts}
 use Rattle.keys.specs.declared.kind.KeyKind

@@ -1,5 +1,5 @@
 -- What the acts of a driver are to the kernel
-use Rattle.std.specs.Prelude.{◌≡◌, ℕ, suc, Bool, true, false, cond, not, ◌&&◌, List, [], ◌∷◌, Ok, Err, Option, Result}
+use Rattle.std.specs.Prelude.{◌≡◌, ℕ, suc, Bool, true, cond, not, ◌&&◌, List, [], ◌∷◌, Ok, Err, Option, Result}
 use Rattle.orders.specs.declared.order.Order.{Ghosts}
 use Rattle.keys.specs.declared.kind.KeyKind
 use Rattle.runs.specs.declared.call.Call.TheVariants.{Request, Release}

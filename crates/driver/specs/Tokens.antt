@@ -3,7 +3,6 @@ use Rattle.std.specs.Prelude.{ℕ, Bool, true, false, cond, not, ◌&&◌, ◌||
 use Rattle.jobs.specs.declared.state.TaskState.{TaskState}
 use Rattle.jobs.specs.Jobs.{is_waiting, is_holding}
 use Rattle.board.specs.declared.record.TaskRecord.{TaskRecord}
-use Rattle.runs.specs.declared.refusal.Refusal.{Refusal}
 use Rattle.runs.specs.declared.refusal.Refusal.TheVariants.{Unchecked, Waits}
 use Rattle.runs.specs.Refusals.{number_of}
 use Rattle.runs.specs.Steps.{Facts, State}

@@ -1,5 +1,5 @@
 -- what a header chooses
-use Rattle.std.proofs.Common.{◌≡◌, ℕ, Bool, true, false, cond, ◌&&◌, ltb, leb, List, [], length, replicate, IfOk, Ok, Err, Result, sym, refl, ap, ◌∙◌, subst}
+use Rattle.std.proofs.Common.{◌≡◌, ℕ, Bool, true, false, cond, ◌&&◌, ltb, leb, List, [], replicate, IfOk, Ok, Err, Result, sym, refl, ap, ◌∙◌, subst}
 use Rattle.first_come.specs.declared.first.FirstCome.{FirstCome}
 use Rattle.first_come.specs.Lines.{fresh_line}
 use Rattle.event_text.specs.declared.heading.OrderWord.{OrderWord}

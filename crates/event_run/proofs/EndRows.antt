@@ -1,5 +1,5 @@
 -- rows at the end, one by one
-use Rattle.std.proofs.Common.{◌≡◌, ℕ, ◌+◌, Bool, cond, List, [], ◌∷◌, ◌++◌, Some, None, Option, sym, refl, ap, ◌∙◌, append_assoc, append-nil, add-one}
+use Rattle.std.proofs.Common.{◌≡◌, ℕ, ◌+◌, Bool, cond, List, [], ◌++◌, Some, None, Option, sym, refl, ap, ◌∙◌, append_assoc, append-nil, add-one}
 use Rattle.jobs.specs.declared.state.TaskState.{TaskState}
 use Rattle.jobs.specs.Jobs.{holds_it}
 use Rattle.transcript.specs.Rows.{task_row, resource_row}

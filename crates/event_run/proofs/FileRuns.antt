@@ -1,5 +1,5 @@
 -- a whole run is the text of its history
-use Rattle.std.proofs.Common.{◌≡◌, ℕ, List, [], ◌∷◌, ◌++◌, vec_items, string_bytes, Result, sym, refl, ap, ◌∙◌, subst}
+use Rattle.std.proofs.Common.{◌≡◌, ℕ, List, [], ◌++◌, vec_items, string_bytes, Result, ap, ◌∙◌, subst}
 use mathlib.Core.Path.{fun_ext}
 use Rattle.orders.specs.declared.order.Order.{Ghosts}
 use Rattle.keys.specs.declared.kind.KeyKind

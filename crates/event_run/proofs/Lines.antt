@@ -1,5 +1,5 @@
 -- lines run one by one make one history
-use Rattle.std.proofs.Common.{◌≡◌, ℕ, suc, ◌+◌, Bool, true, cond, List, [], ◌∷◌, ◌++◌, map, length, Result, sym, refl, ap, ◌∙◌, subst, append_assoc, append-nil, add-one, arith}
+use Rattle.std.proofs.Common.{◌≡◌, ℕ, suc, ◌+◌, cond, List, [], ◌∷◌, ◌++◌, map, length, Result, sym, refl, ap, ◌∙◌, subst, append_assoc, append-nil, add-one}
 use Rattle.orders.specs.declared.order.Order.{Ghosts}
 use Rattle.keys.specs.declared.kind.KeyKind
 use Rattle.jobs.specs.Jobs.{Jobs, running}
@@ -15,7 +15,7 @@ use Rattle.transcript.specs.Rows.{event_row}
 use Rattle.event_text.specs.declared.fault.TextFault.{TextFault}
 use Rattle.event_report.specs.declared.report.Fault.{Fault}
 use Rattle.event_report.specs.Reasons.{fault_at}
-use Rattle.event_run.specs.Entries.{Entry, as_read, onto, history, answer_number, told_at, reason_of, faults_of}
+use Rattle.event_run.specs.Entries.{Entry, onto, history, answer_number, told_at, reason_of, faults_of}
 use Rattle.event_run.specs.Outputs.{powers, event_rows}
 use Rattle.event_run.specs.Taking.{Lined, Sofar}
 

@@ -1,5 +1,5 @@
 -- sums of powers
-use Rattle.std.proofs.Common.{◌≡◌, ℕ, zero, suc, ◌+◌, ◌*◌, ◌%◌, ◌^◌, ◌<◌, ◌≤◌, Bool, true, false, cond, sym, refl, ap, ◌∙◌, subst, add-zero, mod-eq_of_lt, one-mul, pow-suc, add-one, arith, pow_mono}
+use Rattle.std.proofs.Common.{◌≡◌, ℕ, zero, suc, ◌+◌, ◌*◌, ◌%◌, ◌^◌, ◌<◌, ◌≤◌, Bool, true, false, cond, sym, refl, ap, ◌∙◌, add-zero, mod-eq_of_lt, one-mul, pow-suc, add-one, arith, pow_mono}
 use lib.Pow.{pow-lt}
 use Rattle.event_run.specs.Outputs.{powers}
 

@@ -1,5 +1,5 @@
 -- What a whole file comes to
-use Rattle.std.specs.Prelude.{◌≡◌, ℕ, List, [], ◌∷◌, map, Some, None, vec_items, string_bytes, Option, Result}
+use Rattle.std.specs.Prelude.{◌≡◌, ℕ, List, [], map, Some, None, vec_items, string_bytes, Option, Result}
 use Rattle.orders.specs.declared.order.Order.{Ghosts}
 use Rattle.orders.specs.Services.{meaning}
 use Rattle.keys.specs.declared.kind.KeyKind

@@ -2,7 +2,7 @@
 use Rattle.std.specs.Prelude.{ℕ, zero, suc, ◌+◌, ◌^◌, Bool, cond, List, [], ◌∷◌, ◌++◌, length, Some, None, Option}
 use Rattle.jobs.specs.declared.state.TaskState.{TaskState}
 use Rattle.jobs.specs.Jobs.{holds_it, running}
-use Rattle.runs.specs.Histories.{Event, jobs_after, blocked_ticks, longest as longest_in}
+use Rattle.runs.specs.Histories.{jobs_after, blocked_ticks, longest as longest_in}
 use Rattle.transcript.specs.Rows.{start_row, event_row, task_row, resource_row}
 use Rattle.event_run.specs.Entries.{Entry, history, answer_number, told_at}
 

@@ -1,7 +1,7 @@
 -- The first line of a file
-use Rattle.std.proofs.Common.{◌≡◌, ℕ, ◌+◌, ◌-◌, ◌<◌, ◌≤◌, List, [], ◌∷◌, length, take, drop, sym, refl, ap, ◌∙◌, subst, arith}
-use Rattle.std.proofs.lemmas.List.{length-drop, length-take-le, drop_all, take_all, take_rest}
-use Rattle.fields.specs.Cutting.{before, lines, pieces}
+use Rattle.std.proofs.Common.{◌≡◌, ℕ, ◌+◌, ◌-◌, ◌<◌, ◌≤◌, List, [], length, take, drop, sym, subst, arith}
+use Rattle.std.proofs.lemmas.List.{length-drop, drop_all, take_rest}
+use Rattle.fields.specs.Cutting.{before, pieces}
 use Rattle.fields.proofs.Counts.{piece_ends, last_line, before_take}
 use Rattle.event_text.specs.Files.{FirstLine}
 

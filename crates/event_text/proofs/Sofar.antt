@@ -1,16 +1,15 @@
 -- A line that is read field by field
-use Rattle.std.proofs.Common.{◌≡◌, ℕ, suc, ◌+◌, ◌-◌, ◌<◌, ◌≤◌, Bool, true, false, cond, ◌&&◌, ltb, List, [], ◌∷◌, ◌++◌, length, get_or, take, drop, set, replicate, is_some, Some, None, Ok, Err, Option, Result, sym, refl, ap, ◌∙◌, subst, ⊎_elim, append_assoc, append-nil, add_assoc, arith}
+use Rattle.std.proofs.Common.{◌≡◌, ℕ, ◌+◌, ◌<◌, ◌≤◌, Bool, true, false, cond, ◌&&◌, ltb, List, [], ◌∷◌, ◌++◌, length, get_or, take, drop, set, is_some, Some, None, Ok, Err, Option, sym, refl, ap, ◌∙◌, subst, ⊎_elim, append_assoc, append-nil, arith}
 use Rattle.std.proofs.lemmas.List.{length-drop, length-set, length-take-le, drop-drop, drop_more, drop_all, take_all, take_more_set}
 use Rattle.std.proofs.lemmas.Bool.{true≢false, false≢true, cases_lt, cond-true, cond-false}
 use Rattle.std.proofs.lemmas.Bool.Decides.{nat_tests}
 use Rattle.fields.specs.Cutting.{before, pieces, parts, first_part}
 use Rattle.fields.proofs.Counts.{before_within, piece_ends, last_part}
-use Rattle.event_text.specs.declared.fault.TextFault.{TextFault}
-use Rattle.event_text.specs.declared.fault.TextFault.TheVariants.{TooLong, NoForm, BadNumber}
+use Rattle.event_text.specs.declared.fault.TextFault.TheVariants.{NoForm, BadNumber}
 use Rattle.event_text.specs.declared.form.Wanted.{Wanted}
 use Rattle.event_text.specs.declared.form.Found.{Found}
 use Rattle.event_text.specs.Grammar.{is_field, field_number, of_form, before_all, numbers, unless_bad, form_read}
-use Rattle.event_text.specs.Places.{next_place, or_zero, told_of, found_at, found_next, left}
+use Rattle.event_text.specs.Places.{next_place, or_zero, told_of, found_next, left}
 
 -- the parts from a place on: the part there, then those from the next place on
 parts_step : (l : List ℕ) (i : ℕ) → parts (drop i l) ≡ first_part (drop i l) ∷ left l (next_place l (i + length (first_part (drop i l))))

@@ -1,13 +1,11 @@
 -- Events
 use Rattle.std.specs.Prelude.{ℕ, List, [], ◌∷◌, Result, slice_index}
-use Rattle.field_names.specs.declared.name.Name.{Name}
 use Rattle.field_names.specs.declared.name.Name.TheVariants.{Event, Task, Resource, Due, Band, Level}
 use Rattle.fields.specs.declared.word.Word.{Word as Written}
 use Rattle.keys.specs.declared.fixed.BandLevel.{BandLevel}
 use Rattle.runs.specs.declared.call.Call.{Call}
 use Rattle.runs.specs.declared.call.Call.TheVariants.{Arrive, Request, Release, Finish, Tick}
 use Rattle.event_text.specs.declared.fault.TextFault.{TextFault}
-use Rattle.event_text.specs.declared.form.Wanted.{Wanted}
 use Rattle.event_text.specs.declared.form.Wanted.TheVariants.{Number, Word}
 use Rattle.event_text.specs.Grammar.{form_read, made, or_else, unless_long}
 

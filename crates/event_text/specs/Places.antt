@@ -1,5 +1,5 @@
 -- The fields of a line by their places
-use Rattle.std.specs.Prelude.{ℕ, ◌+◌, Bool, true, false, cond, List, [], ◌∷◌, length, drop, is_some, Some, None, Option, nat_lt}
+use Rattle.std.specs.Prelude.{ℕ, ◌+◌, cond, List, [], length, drop, is_some, Some, None, Option, nat_lt}
 use Rattle.fields.specs.Cutting.{first_part, parts}
 use Rattle.event_text.specs.declared.form.Wanted.{Wanted}
 use Rattle.event_text.specs.declared.form.Found.{Found}

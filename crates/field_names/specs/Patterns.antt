@@ -1,5 +1,5 @@
 -- What a pattern of bytes and a rest takes, place by place
-use Rattle.std.specs.Prelude.{ℕ, ◌+◌, ◌-◌, Bool, true, false, cond, ◌&&◌, List, [], ◌∷◌, length, take, drop, Some, None, Option, ◌==◌, nat_le, slice_index}
+use Rattle.std.specs.Prelude.{ℕ, ◌+◌, ◌-◌, Bool, true, cond, ◌&&◌, List, [], ◌∷◌, length, take, drop, Some, None, Option, ◌==◌, nat_le, slice_index}
 
 -- the bytes ps stand in l from the place i on
 abbrev pub stand_at : ℕ → List ℕ → List ℕ → Bool

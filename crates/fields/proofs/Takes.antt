@@ -1,5 +1,5 @@
 -- The field that is cut from a line
-use Rattle.std.proofs.Common.{◌≡◌, ℕ, ◌+◌, ◌-◌, Bool, List, length, take, drop, Some, None, Option, sym, ap, ◌∙◌, arith}
+use Rattle.std.proofs.Common.{◌≡◌, ℕ, ◌-◌, Bool, List, length, take, drop, Some, None, Option, sym, ap, ◌∙◌, arith}
 use Rattle.field_names.specs.declared.name.Name.{Name}
 use Rattle.fields.specs.Cutting.{first_part}
 use Rattle.field_names.specs.Names.{name_text, after}

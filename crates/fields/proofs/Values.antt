@@ -1,8 +1,8 @@
 -- The value of a text, digit by digit
-use Rattle.std.proofs.Common.{◌≡◌, ℕ, zero, suc, ◌+◌, ◌-◌, ◌*◌, ◌<◌, ◌≤◌, Bool, true, false, cond, not, ◌&&◌, eqb, ltb, leb, List, [], ◌∷◌, length, get_or, take, drop, Some, None, Option, sym, refl, ap, ◌∙◌, arith}
+use Rattle.std.proofs.Common.{◌≡◌, ℕ, ◌+◌, ◌-◌, ◌*◌, ◌<◌, ◌≤◌, true, false, ◌&&◌, leb, List, [], ◌∷◌, length, get_or, drop, Some, None, arith}
 use Rattle.std.proofs.lemmas.List.{at_drop_more, at_drop_all}
 use Rattle.std.proofs.lemmas.Bool.Decides.{nat_tests}
-use Rattle.fields.specs.Numbers.{is_digit, digits_only, is_number, value_after, leads_zero, fits, number_of}
+use Rattle.fields.specs.Numbers.{is_digit, digits_only, is_number, value_after, leads_zero, number_of}
 
 pub digits_step : (t : List ℕ) (i : ℕ) → i < length t → digits_only (drop i t) ≡ (is_digit (get_or t i 0) && digits_only (drop (i + 1) t))
 unfolding digits_only

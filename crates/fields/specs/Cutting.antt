@@ -1,5 +1,5 @@
 -- Cutting a list of bytes
-use Rattle.std.specs.Prelude.{ℕ, suc, Bool, true, false, cond, List, [], ◌∷◌, length, take, ◌==◌}
+use Rattle.std.specs.Prelude.{ℕ, suc, cond, List, [], ◌∷◌, take, ◌==◌}
 
 -- how many bytes stand before the first b, or before the end
 unfoldable pub before : ℕ → List ℕ → ℕ

@@ -1,22 +1,21 @@
 -- what the gate's code leaves
-use Rattle.std.proofs.Common.{◌≡◌, ℕ, zero, suc, ◌+◌, ◌-◌, ◌*◌, ◌<◌, ◌≤◌, Bool, true, false, cond, not, ◌&&◌, ◌||◌, eqb, ltb, leb, ◌⊎◌, List, [], ◌∷◌, length, get_or, set, replicate, is_some, Some, None, Ok, Err, Option, Result, sym, refl, ap, ◌∙◌, subst, inl, inr, ⊎_elim, arith}
+use Rattle.std.proofs.Common.{◌≡◌, ℕ, ◌+◌, ◌*◌, ◌<◌, ◌≤◌, Bool, true, false, cond, not, ◌&&◌, eqb, ltb, List, length, get_or, set, replicate, is_some, Some, None, Ok, Err, Option, Result, sym, refl, ap, ◌∙◌, subst, inl, inr, arith}
 use Rattle.std.proofs.lemmas.List.{get_or-replicate, get_or_past, length-replicate, get_or-set_same, get_or-set_other, length-set}
-use Rattle.std.proofs.lemmas.Bool.{and_parts, not-true, cases_lt, cases_eq, cases_Bool, true≢false, lt-ltb, ltb-true, ltb-false, or_parts, eq-eqb}
+use Rattle.std.proofs.lemmas.Bool.{and_parts, not-true, cases_lt, cases_eq, cases_Bool, true≢false, lt-ltb, or_parts}
 use Rattle.orders.specs.declared.refusal.OrderRefusal.{OrderRefusal}
-use Rattle.orders.specs.declared.refusal.OrderRefusal.TheVariants.{Unknown, Queued, Full, Empty}
+use Rattle.orders.specs.declared.refusal.OrderRefusal.TheVariants.{Full}
 use Rattle.orders.specs.declared.order.Order.{Ghosts}
 use Rattle.orders.specs.Services.{meaning, Lawful}
 use Rattle.gate.specs.declared.row.Row.{Row}
 use Rattle.gate.specs.declared.gate.Gate.{Gate}
-use Rattle.orders.specs.Counting.{tally, ahead}
-use Rattle.orders.specs.Orders.{Meaning, Rules, Admits, Passes, size, admit_answer, pass_answer}
+use Rattle.orders.specs.Orders.{Meaning, size, admit_answer}
 use Rattle.orders.specs.Gating.{idle, fit, inside, gated, shut}
-use Rattle.gate.specs.Gates.{no_row, fresh_rows, marked, noted, gate_meaning, Entered, Beside, GateAdmitted, Moved, Moves, GatePassed, Best}
-use Rattle.gate.specs.Gates.Moves.{nobody, moved}
+use Rattle.gate.specs.Gates.{no_row, fresh_rows, marked, noted, gate_meaning, Entered, Beside, GateAdmitted, Moved, GatePassed, Best}
+use Rattle.gate.specs.Gates.Moves.{moved}
 use Rattle.orders.proofs.Counts.{tally_all, every_at}
-use Rattle.orders.proofs.Answered.{Admitted, admit_ok, admit_fine, pass_fine}
-use Rattle.orders.proofs.Gated.{Fit, inside_parts}
-use Rattle.gate.specs.Gatelaws.{fit_parts, marked_bound, none_queued, gate_rules}
+use Rattle.orders.proofs.Answered.{admit_fine, pass_fine}
+use Rattle.orders.proofs.Gated.{inside_parts}
+use Rattle.gate.specs.Gatelaws.{fit_parts, marked_bound, none_queued}
 
 pub get_or_blank : (n u : ℕ) → get_or (replicate n false) u false ≡ false
 get_or_blank n u = elim (cases_lt u n) [ inl b ↦ get_or-replicate n u false false b | inr b ↦ get_or_past (replicate n false) u false (simp length-replicate b) ]

@@ -1,20 +1,19 @@
 -- the gate, open or closed, is an order of service over any other
-use Rattle.std.specs.Prelude.{◌≡◌, ℕ, zero, suc, ◌+◌, ◌-◌, ◌*◌, ◌<◌, ◌≤◌, Bool, true, false, cond, not, ◌&&◌, ◌||◌, ◌⊎◌, List, [], ◌∷◌, get_or, Some, None, Ok, Err, Option, Result, ◌==◌, ◌≢◌, nat_le, nat_lt, slice_index_or, refl}
-use Rattle.std.proofs.Common.{arith, sym, ◌∙◌, ap, subst, inl, inr, ⊎_elim}
-use Rattle.std.proofs.lemmas.Bool.{and_parts, cases_lt, cases_eq, cases_Bool, true≢false, cond-true, cond-false, eqb-true, leb-true, ltb-true, or_parts}
+use Rattle.std.specs.Prelude.{◌≡◌, ℕ, ◌+◌, ◌*◌, ◌<◌, true, false, ◌&&◌, List, get_or, Some, None, Ok, Err, Option, Result, ◌==◌, ◌≢◌, nat_le, nat_lt, slice_index_or, refl}
+use Rattle.std.proofs.Common.{arith, sym, ◌∙◌, ap, subst, inl, inr}
+use Rattle.std.proofs.lemmas.Bool.{and_parts, cases_lt, cases_Bool, true≢false, eqb-true, leb-true, ltb-true, or_parts}
 use Rattle.orders.specs.declared.refusal.OrderRefusal.{OrderRefusal}
 use Rattle.orders.specs.declared.order.Order.{Ghosts}
 use Rattle.orders.specs.Services.{meaning, Lawful}
 use Rattle.gate.specs.declared.row.Row.{Row}
 use Rattle.gate.specs.declared.gate.Gate.{Gate}
-use Rattle.orders.specs.Counting.{tally, ahead}
-use Rattle.orders.specs.Orders.{Meaning, Rules, Admits, Passes, Joined, Left, Fixed, size, admit_answer, pass_answer}
+use Rattle.orders.specs.Orders.{Meaning, Rules, Admits, Passes, Joined, Left, Fixed, size, admit_answer}
 use Rattle.orders.specs.Gating.{fit, inside, gated, shut}
-use Rattle.gate.specs.Gates.{no_row, marked, noted, gate_meaning, Entered, Beside, GateAdmitted, Moved, Moves, GatePassed}
+use Rattle.gate.specs.Gates.{no_row, marked, noted, gate_meaning, Beside, GateAdmitted, Moved, Moves, GatePassed}
 use Rattle.gate.specs.Gates.Moves.{nobody, moved}
 use Rattle.orders.proofs.Counts.{tally_none}
 use Rattle.orders.proofs.Answered.{admit_ok, admit_fine, pass_ok, pass_fine}
-use Rattle.orders.proofs.Gated.{Fit, Bound, Inside, inside_parts, gated_rules, joined_below, joined_gate, left_size, left_nobody, left_moved}
+use Rattle.orders.proofs.Gated.{Fit, Bound, inside_parts, gated_rules, joined_below, joined_gate, left_size, left_nobody, left_moved}
 
 pub fit_parts : (v : Meaning) → Rules v → fit v ≡ true → Fit v
 fit_parts v rules h =

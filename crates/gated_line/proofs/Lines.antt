@@ -1,13 +1,13 @@
 -- first-come at resource 0, as a list
-use Rattle.std.proofs.Common.{◌≡◌, ℕ, zero, suc, ◌+◌, ◌-◌, ◌*◌, ◌<◌, ◌≤◌, Bool, true, false, cond, not, ◌&&◌, ◌||◌, eqb, ltb, leb, ◌⊎◌, List, [], ◌∷◌, ◌++◌, length, get_or, drop, set, replicate, Some, None, Ok, Err, Option, Result, sym, refl, ap, ◌∙◌, subst, inl, inr, ⊎_elim, arith}
-use Rattle.std.proofs.lemmas.Bool.{ltb-true, lt-ltb}
+use Rattle.std.proofs.Common.{◌≡◌, ℕ, true, false, ltb, List, [], ◌∷◌, ◌++◌, length, get_or, replicate, Option, Result, ap, ◌∙◌, arith}
+use Rattle.std.proofs.lemmas.Bool.{ltb-true}
 use Rattle.orders.specs.declared.refusal.OrderRefusal.{OrderRefusal}
 use Rattle.first_come.specs.declared.line.Entry.{Entry}
 use Rattle.first_come.specs.declared.first.FirstCome.{FirstCome}
-use Rattle.orders.specs.Orders.{Meaning, size, asked}
+use Rattle.orders.specs.Orders.{size, asked}
 use Rattle.first_come.specs.Lines.{empty, fresh_line, waiting, has, place}
 use Rattle.first_come.specs.First.{line_of, first_meaning, FirstAdmitted}
-use Rattle.orders.proofs.Answered.{admit_fine, pass_fine}
+use Rattle.orders.proofs.Answered.{admit_fine}
 use Rattle.first_come.specs.Lined.{tally_line}
 use Rattle.first_come.specs.Firsts.{neat_of}
 

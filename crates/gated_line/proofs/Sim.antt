@@ -1,11 +1,10 @@
 -- the gate over first-come at resource 0, as two lists
-use Rattle.std.proofs.Common.{◌≡◌, ℕ, zero, suc, ◌+◌, ◌-◌, ◌*◌, ◌<◌, ◌≤◌, Bool, true, false, cond, not, ◌&&◌, ◌||◌, eqb, ltb, leb, ◌⊎◌, List, [], ◌∷◌, ◌++◌, length, get_or, drop, set, replicate, is_some, Some, None, Ok, Err, Option, Result, sym, refl, ap, ◌∙◌, subst, inl, inr, ⊎_elim, arith}
-use Rattle.std.proofs.lemmas.List.{get_or_append_left, get_or_push}
-use Rattle.std.proofs.lemmas.Bool.{and_parts, or_cases, or_parts, cases_eq, cases_Bool, ltb-true, lt-ltb, eqb-true, eq-eqb, ne_eqb, both_ways, true≢false, not-true}
+use Rattle.std.proofs.Common.{◌≡◌, ℕ, ◌+◌, ◌-◌, ◌*◌, ◌<◌, Bool, true, false, cond, not, ◌&&◌, ◌||◌, eqb, ltb, leb, List, [], ◌∷◌, ◌++◌, length, get_or, drop, replicate, Some, Ok, Option, Result, sym, refl, ap, ◌∙◌, subst, inl, inr, arith}
+use Rattle.std.proofs.lemmas.Bool.{and_parts, or_cases, or_parts, cases_eq, cases_Bool, ltb-true, eqb-true, eq-eqb, ne_eqb, true≢false}
 use Rattle.orders.specs.declared.refusal.OrderRefusal.{OrderRefusal}
 use Rattle.first_come.specs.declared.line.Entry.{Entry}
 use Rattle.first_come.specs.declared.first.FirstCome.{FirstCome}
-use Rattle.orders.specs.Counting.{ahead, tally, most, every}
+use Rattle.orders.specs.Counting.{ahead, most, every}
 use Rattle.orders.specs.Orders.{Meaning, size, asked, admit_answer}
 use Rattle.first_come.specs.Lines.{has, place, code_of, leader}
 use Rattle.first_come.specs.First.{line_of, first_meaning, FirstAdmitted, FirstPassed}
@@ -14,7 +13,7 @@ use Rattle.orders.specs.Gating.{fit, inside}
 use Rattle.gate.specs.declared.gate.Gate.{Gate}
 use Rattle.gate.specs.Gates.{marked, noted, gate_meaning, in_gate, GateAdmitted, GatePassed, Moves}
 use Rattle.gate.specs.Gates.Moves.{nobody, moved}
-use Rattle.orders.proofs.Answered.{admit_fine, pass_fine, pass_ok}
+use Rattle.orders.proofs.Answered.{pass_fine}
 use Rattle.first_come.specs.Lined.{has_push, code_push, code_last, lined_rules}
 use Rattle.first_come.specs.Firsts.{neat_of, first_admits, first_passes}
 use Rattle.orders.proofs.Gated.{inside_parts, inside_from}

@@ -1,7 +1,6 @@
 -- The gate over first-come
-use Rattle.std.specs.Prelude.{◌≡◌, ℕ, Bool, true, false, cond, ◌&&◌, replicate, nat_le}
+use Rattle.std.specs.Prelude.{◌≡◌, ℕ, true, cond, ◌&&◌, replicate, nat_le}
 use Rattle.orders.specs.declared.order.Order.{Ghosts}
-use Rattle.orders.specs.Gating.{idle}
 use Rattle.first_come.specs.declared.first.FirstCome.{FirstCome}
 use Rattle.first_come.specs.Lines.{fresh_line}
 use Rattle.first_come.specs.First.{first_meaning, FirstAdmitted, FirstPassed}

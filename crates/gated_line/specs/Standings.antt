@@ -1,5 +1,5 @@
 -- Where a task stands at a gate
-use Rattle.std.specs.Prelude.{ℕ, Bool, false, cond, ◌&&◌, Some, None, Option, ◌==◌}
+use Rattle.std.specs.Prelude.{ℕ, Bool, false, cond, Some, None, Option, ◌==◌}
 use Rattle.orders.specs.declared.order.Order.{Ghosts}
 use Rattle.gate.specs.declared.gate.Gate.{Gate}
 use Rattle.gate.specs.Gates.{gate_meaning, in_gate}

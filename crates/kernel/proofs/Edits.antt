@@ -1,16 +1,16 @@
 -- a board that changed, as the state that the step speaks of
-use Rattle.std.proofs.Common.{◌≡◌, ℕ, suc, max, Bool, true, false, cond, eqb, ◌⊎◌, get_or, Some, None, Option, sym, refl, ap, ◌∙◌, inl, inr}
+use Rattle.std.proofs.Common.{◌≡◌, ℕ, suc, max, Bool, true, false, cond, eqb, get_or, Some, None, Option, sym, refl, ap, ◌∙◌, inl, inr}
 use mathlib.Core.Path.{fun_ext}
 use Rattle.std.proofs.lemmas.Bool.{cases_eq, eq-eqb, ne_eqb}
 use Rattle.jobs.specs.declared.state.TaskState.{TaskState}
-use Rattle.jobs.specs.declared.state.TaskState.TheVariants.{Idle, Ready, Waiting, Holding}
+use Rattle.jobs.specs.declared.state.TaskState.TheVariants.{Ready, Holding}
 use Rattle.jobs.specs.Jobs.{blocked, busy}
 use Rattle.board.specs.declared.board.Board.{Board}
 use Rattle.board.specs.declared.record.TaskRecord.{TaskRecord}
 use Rattle.board.specs.declared.record.ResourceRecord.{ResourceRecord}
 use Rattle.board.specs.Boards.{blank, unheld, jobs_of, begun, asked, turned, ticked, ticked_hold, begun_hold}
 use Rattle.board.specs.Calls.{row, hold, Put, PutHold, Ticked}
-use Rattle.runs.specs.Histories.{put, hand}
+use Rattle.runs.specs.Histories.{put}
 use Rattle.runs.specs.Steps.{Kernel, State, granted, arrive_state, request_state, release_state, tick_state}
 use Rattle.kernel.specs.Views.{view, HandedOver}
 

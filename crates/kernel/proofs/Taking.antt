@@ -1,12 +1,11 @@
 -- what each call leaves is one step of the definition
-use Rattle.std.proofs.Common.{◌≡◌, ℕ, suc, ◌<◌, ◌≤◌, Bool, true, false, cond, not, eqb, ltb, leb, ◌⊎◌, Some, None, Ok, Err, Option, Result, sym, refl, ap, ◌∙◌, subst, inl, inr, arith}
-use Rattle.std.proofs.lemmas.Bool.{lt-ltb, le-leb, true≢false}
+use Rattle.std.proofs.Common.{◌≡◌, ℕ, suc, ◌<◌, ◌≤◌, Bool, true, false, cond, not, eqb, ltb, leb, Some, None, Ok, Err, Option, Result, sym, refl, ap, ◌∙◌, subst, arith}
+use Rattle.std.proofs.lemmas.Bool.{lt-ltb, le-leb}
 use Rattle.orders.specs.declared.refusal.OrderRefusal.{OrderRefusal}
 use Rattle.orders.specs.declared.order.Order.{Ghosts}
 use Rattle.keys.specs.declared.kind.KeyKind
-use Rattle.jobs.specs.declared.state.TaskState.{TaskState}
 use Rattle.jobs.specs.declared.state.TaskState.TheVariants.{Idle, Ready, Waiting, Holding}
-use Rattle.jobs.specs.Jobs.{pending, is_waiting, is_holding, running}
+use Rattle.jobs.specs.Jobs.{pending, running}
 use Rattle.board.specs.declared.board.Board.{Board}
 use Rattle.board.specs.declared.record.TaskRecord.{TaskRecord}
 use Rattle.board.specs.declared.event.TaskEvent.TheVariants.{Arrive as Arriving, Request as Requesting, Release as Releasing, Finish as Finishing}
@@ -18,9 +17,9 @@ use Rattle.runs.specs.declared.call.Call.{Call}
 use Rattle.runs.specs.declared.call.Call.TheVariants.{Arrive, Request, Release, Finish, Tick}
 use Rattle.runs.specs.declared.call.Accepted.{Accepted}
 use Rattle.runs.specs.declared.refusal.Refusal.{Refusal}
-use Rattle.runs.specs.declared.refusal.Refusal.TheVariants.{Unchecked, NoSuchTask, NoSuchResource, AlreadyPending, NoJobPending, Waits, HoldsNothing, OutOfRange, CountSpent, Order}
+use Rattle.runs.specs.declared.refusal.Refusal.TheVariants.{Unchecked, NoSuchTask, NoSuchResource, AlreadyPending, OutOfRange, CountSpent, Order}
 use Rattle.runs.specs.Histories.{Event}
-use Rattle.runs.specs.Steps.{Facts, Step, State, refusal, granted, kernel_of, request_state}
+use Rattle.runs.specs.Steps.{Step, refusal, granted, kernel_of}
 use Rattle.kernel.specs.declared.kernel.Kernel.{Kernel}
 use Rattle.kernel.specs.Views.{view, state_of, facts_of, noted, done, counted, handed, is_it, HandedOver, BelowTasks, FoundTask}
 use Rattle.kernel.specs.Promises.{Took}

@@ -1,5 +1,5 @@
 -- the latest wait that a kernel tells is that of the history
-use Rattle.std.proofs.Common.{◌≡◌, ℕ, ◌*◌, ◌≤◌, ◌&&◌, ltb, List, Some, Option, sym, refl, ap, ◌∙◌, subst}
+use Rattle.std.proofs.Common.{◌≡◌, ℕ, ◌*◌, ◌≤◌, ◌&&◌, ltb, List, Some, Option, sym, ap, ◌∙◌, subst}
 use Rattle.orders.specs.declared.order.Order.{Ghosts}
 use Rattle.orders.proofs.Answered.{asked_some}
 use Rattle.keys.specs.declared.kind.KeyKind

@@ -1,5 +1,5 @@
 -- A kernel as the state that the step speaks of
-use Rattle.std.specs.Prelude.{◌≡◌, ℕ, ◌*◌, ◌<◌, ◌≤◌, Bool, true, false, cond, not, ◌&&◌, List, ◌∷◌, get_or, Some, None, Ok, Err, Option, Result, ◌==◌, nat_lt, slice_index_or}
+use Rattle.std.specs.Prelude.{◌≡◌, ℕ, ◌*◌, ◌<◌, ◌≤◌, Bool, true, false, cond, not, ◌&&◌, List, get_or, Some, None, Ok, Err, Option, Result, ◌==◌, nat_lt, slice_index_or}
 use Rattle.board.specs.declared.board.Board.{Board}
 use Rattle.jobs.specs.declared.number.TaskNo.{TaskNo}
 use Rattle.jobs.specs.declared.number.ResourceNo.{ResourceNo}

@@ -1,5 +1,5 @@
 ghost use Rattle.std.specs.Prelude.{◌≡◌, [], ◌∷◌};
-ghost use Rattle.kernel.specs.Views.{noted, Plain, done as done-with, counted as counted-with, handed as handed-with};
+ghost use Rattle.kernel.specs.Views.{noted, Plain, done as done_with, counted as counted_with, handed as handed_with};
 ghost use Rattle.kernel.specs.Promises.{Took, Counted, Holds, GateFigure, Ran};
 
 use crate::kernel::Kernel;
@@ -10,7 +10,7 @@ use runs::{Accepted, Call, Refusal, guarantee_stands};
 
 // The answer of a call that tells nothing.
 fn done(answer: Result<(), Refusal>) -> Result<Accepted, Refusal>
-    ensures { result ≡ done-with answer }
+    ensures { result ≡ done_with answer }
 {
     match answer {
         Ok(()) => Ok(Accepted {
@@ -23,7 +23,7 @@ fn done(answer: Result<(), Refusal>) -> Result<Accepted, Refusal>
 
 // The answer of a request, which tells a count.
 fn counted(answer: Result<u32, Refusal>) -> Result<Accepted, Refusal>
-    ensures { result ≡ counted-with answer }
+    ensures { result ≡ counted_with answer }
 {
     match answer {
         Ok(told) => Ok(Accepted { told, next: None }),
@@ -33,7 +33,7 @@ fn counted(answer: Result<u32, Refusal>) -> Result<Accepted, Refusal>
 
 // The answer of a release, which tells the next holder.
 fn handed(answer: Result<Option<u32>, Refusal>) -> Result<Accepted, Refusal>
-    ensures { result ≡ handed-with answer }
+    ensures { result ≡ handed_with answer }
 {
     match answer {
         Ok(next) => Ok(Accepted { told: 0, next }),

@@ -1,17 +1,17 @@
 -- a history grows call by call
-use Rattle.std.proofs.Common.{◌≡◌, ℕ, ◌+◌, List, [], ◌∷◌, Ok, Err, Result, sym, refl, ap, ◌∙◌, subst, add-one}
+use Rattle.std.proofs.Common.{◌≡◌, ℕ, ◌+◌, List, [], ◌∷◌, Result, sym, refl, ap, ◌∙◌, subst, add-one}
 use Rattle.keys.specs.declared.kind.KeyKind
 use Rattle.first_come.specs.declared.first.FirstCome.{FirstCome}
 use Rattle.gate.specs.declared.gate.Gate.{Gate}
 use Rattle.gated_line.specs.GatedLine.{gated_order}
 use Rattle.runs.specs.declared.call.Call.{Call}
-use Rattle.runs.specs.declared.call.Call.TheVariants.{Arrive, Request, Release, Finish, Tick}
+use Rattle.runs.specs.declared.call.Call.TheVariants.{Arrive, Request, Release, Tick}
 use Rattle.runs.specs.declared.call.Accepted.{Accepted}
 use Rattle.runs.specs.declared.refusal.Refusal.{Refusal}
 use Rattle.runs.specs.Steps.{Facts, Step, Leads, kernel_of}
-use Rattle.longest.specs.Longest.{call_of, calls, turn, entries, rounds}
+use Rattle.longest.specs.Longest.{calls, turn, entries, rounds}
 use Rattle.kernel.specs.declared.kernel.Kernel.{Kernel}
-use Rattle.kernel.specs.Views.{facts_of, state_of, noted}
+use Rattle.kernel.specs.Views.{state_of, noted}
 use Rattle.kernel.specs.Promises.{Took}
 use Rattle.longest_run.specs.Reached.{Went}
 use Rattle.kernel.proofs.Running.{noted_call}

@@ -1,5 +1,5 @@
 ghost use Rattle.std.specs.Prelude.{◌≡◌, ◌*◌, ◌<◌, ◌≤◌, true};
-ghost use Rattle.longest.specs.Longest.{turn as turn-of, entries, longest_calls};
+ghost use Rattle.longest.specs.Longest.{turn as turn_of, entries, longest_calls};
 ghost use Rattle.longest_run.specs.Reached.{Went, Rounded, Reached};
 
 use first_come::FirstCome;
@@ -14,7 +14,7 @@ use runs::{Call, guarantee_stands};
 fn turn(m: u32, i: u32) -> u32
     requires few { m ≤ 16 }
     requires within { i < 2 * m }
-    ensures { result ≡ turn-of m i }
+    ensures { result ≡ turn_of m i }
 {
     if i < m { m + i } else { i - m }
 }

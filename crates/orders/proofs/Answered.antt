@@ -1,7 +1,6 @@
 -- what an answer tells
-use Rattle.std.proofs.Common.{◌≡◌, ℕ, ◌+◌, ◌-◌, ◌<◌, ◌≤◌, Bool, true, false, cond, not, ◌&&◌, ◌||◌, eqb, ltb, ◌⊎◌, Some, None, Ok, Err, Option, Result, sym, refl, ap, ◌∙◌, subst, inl, inr, ⊎_elim, arith}
-use Rattle.std.proofs.lemmas.Bool.{and_parts, cases_Bool, ltb-true, eqb-false, cases_eq, lt-ltb, ne_eqb, true≢false}
-use Rattle.orders.specs.declared.refusal.OrderRefusal.{OrderRefusal}
+use Rattle.std.proofs.Common.{◌≡◌, ℕ, ◌<◌, Bool, true, false, ◌&&◌, eqb, ltb, Some, None, Ok, Err, Option, refl, inl, inr, arith}
+use Rattle.std.proofs.lemmas.Bool.{and_parts, cases_Bool, ltb-true, eqb-false, lt-ltb, ne_eqb}
 use Rattle.orders.specs.declared.refusal.OrderRefusal.TheVariants.{Unknown, Queued, Full, Empty}
 use Rattle.orders.specs.Orders.{Meaning, size, asked, admit_answer, pass_answer, held_answer}
 

@@ -1,9 +1,8 @@
 -- an open gate keeps the rules of an order of service
-use Rattle.std.proofs.Common.{◌≡◌, ℕ, zero, suc, ◌+◌, ◌-◌, ◌*◌, ◌<◌, ◌≤◌, Bool, true, false, cond, not, ◌&&◌, ◌||◌, eqb, ltb, leb, ◌⊎◌, Some, None, Option, sym, refl, ap, ◌∙◌, subst, inl, inr, ⊎_elim, arith}
-use Rattle.std.proofs.lemmas.Bool.{and_parts, and_cases, and_from, or_cases, or_parts, or_left, or_right, or_from, cases_eq, cases_Bool, true≢false, cond-true, cond-false, eq-eqb, ne_eqb, eqb-true, not-true, not-false, not_from_true, not_from_false, both_ways}
-use Rattle.std.proofs.lemmas.Bool.Decides.{nat_tests}
-use Rattle.orders.specs.Counting.{tally, most, every, ahead}
-use Rattle.orders.specs.Orders.{Meaning, Rules, Kept, Joined, Left, Fixed, size, before}
+use Rattle.std.proofs.Common.{◌≡◌, ℕ, ◌+◌, ◌-◌, ◌*◌, ◌<◌, ◌≤◌, Bool, true, false, cond, not, ◌&&◌, ◌||◌, eqb, Some, None, sym, refl, ap, ◌∙◌, subst, inl, inr, arith}
+use Rattle.std.proofs.lemmas.Bool.{and_parts, or_cases, or_parts, or_left, or_right, cases_eq, cases_Bool, true≢false, eq-eqb, ne_eqb, eqb-true, not-true, not-false, both_ways}
+use Rattle.orders.specs.Counting.{tally, ahead}
+use Rattle.orders.specs.Orders.{Meaning, Rules, Kept, Joined, Left, size, before}
 use Rattle.orders.specs.Gating.{inside, against, behind, delay, gated}
 use Rattle.orders.proofs.Counts.{tally_same, tally_le, tally_top, tally_more, tally_less, tally_none, most_at, most_le, most_same, every_same, every_at, every_not, ahead_total, ahead_self}
 

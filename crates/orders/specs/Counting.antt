@@ -1,5 +1,5 @@
 -- Counting over the numbers below n, and rank
-use Rattle.std.specs.Prelude.{ℕ, zero, suc, ◌+◌, max, Bool, true, false, cond, not, ◌&&◌, ◌||◌, ◌==◌, nat_lt}
+use Rattle.std.specs.Prelude.{ℕ, zero, suc, ◌+◌, max, Bool, true, cond, ◌&&◌, ◌||◌, ◌==◌, nat_lt}
 
 -- how many numbers below n pass the test
 unfoldable pub tally : (ℕ → Bool) → ℕ → ℕ

@@ -1,5 +1,5 @@
 -- What a gate before an order of service means, by what the order below means
-use Rattle.std.specs.Prelude.{ℕ, ◌+◌, ◌*◌, Bool, true, false, cond, not, ◌&&◌, ◌||◌, is_some, None, ◌==◌, nat_le}
+use Rattle.std.specs.Prelude.{ℕ, ◌+◌, ◌*◌, Bool, false, cond, not, ◌&&◌, ◌||◌, is_some, None, ◌==◌, nat_le}
 use Rattle.orders.specs.Counting.{most, every, ahead}
 use Rattle.orders.specs.Orders.{Meaning, size}
 

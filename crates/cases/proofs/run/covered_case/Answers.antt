@@ -1,4 +1,4 @@
-use Rattle.std.proofs.Common.{◌≡◌, refl}
+use Rattle.std.proofs.Common.{refl}
 use Rattle.orders.specs.Counting.{most, every}
 use Rattle.gated_line.proofs.Sim.{sim_new, sim_below, sim_gate, sim_moved, sim_covered, sim_out, sim_count_below, sim_count_gate}
 use Rattle.cases.proofs.run.covered_case.Goals as goal

@@ -1,4 +1,4 @@
-use Rattle.std.proofs.Common.{◌≡◌, refl}
+use Rattle.std.proofs.Common.{refl}
 use Rattle.orders.specs.Counting.{most}
 use Rattle.gated_line.proofs.Sim.{sim_new, sim_below, sim_gate, sim_moved, sim_none, sim_holder, sim_out, sim_count_below, sim_count_gate}
 use Rattle.cases.proofs.run.gate_case.Goals as goal

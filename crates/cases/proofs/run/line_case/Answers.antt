@@ -1,4 +1,4 @@
-use Rattle.std.proofs.Common.{◌≡◌, refl}
+use Rattle.std.proofs.Common.{refl}
 use Rattle.gated_line.proofs.Lines.{line_new, line_admit, line_count}
 use Rattle.cases.proofs.run.line_case.Goals as goal
 

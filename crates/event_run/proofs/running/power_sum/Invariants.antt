@@ -1,4 +1,4 @@
-use Rattle.std.proofs.Common.{◌≡◌, ◌^◌, ◌<◌, false, get_or}
+use Rattle.std.proofs.Common.{◌≡◌, false, get_or}
 use Rattle.event_run.specs.Outputs.{powers}
 use Rattle.event_run.proofs.running.power_sum.Given as goal
 

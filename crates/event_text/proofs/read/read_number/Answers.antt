@@ -1,4 +1,4 @@
-use Rattle.std.proofs.Common.{refl, arith, rules}
+use Rattle.std.proofs.Common.{refl, rules}
 use Rattle.event_text.proofs.Cutout.{field_inside, number_found, number_token}
 use Rattle.event_text.proofs.read.read_number.Goals as goal
 

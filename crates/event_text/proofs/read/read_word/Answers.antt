@@ -1,4 +1,4 @@
-use Rattle.std.proofs.Common.{sym, refl, arith, rules}
+use Rattle.std.proofs.Common.{sym, refl, rules}
 use Rattle.event_text.proofs.Cutout.{field_inside, word_found, number_no_word, number_token, word_token}
 use Rattle.event_text.proofs.read.read_word.Goals as goal
 

@@ -1,4 +1,4 @@
-use Rattle.std.proofs.Common.{sym, ◌∙◌, arith, rules}
+use Rattle.std.proofs.Common.{◌∙◌, rules}
 use Rattle.fields.proofs.Values.{digit_low, a_digit, value_step, too_large, read_all}
 use Rattle.fields.proofs.numbers.number.Goals as goal
 

@@ -1,4 +1,4 @@
-use Rattle.std.proofs.Common.{◌≡◌, not, ◌||◌, sym, ◌∙◌, arith}
+use Rattle.std.proofs.Common.{not, ◌||◌, sym, ◌∙◌}
 use Rattle.orders.specs.Counting.{ahead}
 use Rattle.orders.proofs.Counts.{every_zero_steps, every_yes, every_fails}
 use Rattle.orders.specs.Services.{meaning}

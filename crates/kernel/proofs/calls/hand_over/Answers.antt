@@ -1,5 +1,4 @@
-use Rattle.std.proofs.Common.{◌≡◌, ℕ, subst}
-use Rattle.board.specs.declared.board.Board.{Board}
+use Rattle.std.proofs.Common.{ℕ, subst}
 use Rattle.board.specs.Boards.{turned}
 use Rattle.board.specs.Calls.{row, Put}
 use Rattle.jobs.specs.declared.state.TaskState.TheVariants.{Holding}

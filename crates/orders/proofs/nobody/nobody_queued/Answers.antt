@@ -1,4 +1,4 @@
-use Rattle.std.proofs.Common.{◌≡◌, not, is_some, sym, ap, ◌∙◌, arith}
+use Rattle.std.proofs.Common.{not, is_some, sym, ap, ◌∙◌}
 use Rattle.orders.proofs.Counts.{every_zero_steps, every_yes, every_fails}
 use Rattle.orders.specs.Services.{meaning}
 use Rattle.orders.proofs.nobody.nobody_queued.Goals as goal

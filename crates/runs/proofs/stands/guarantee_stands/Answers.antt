@@ -1,4 +1,3 @@
-use Rattle.orders.specs.Services.{Lawful}
 use Rattle.runs.proofs.Guaranteed.{guaranteed}
 use Rattle.runs.proofs.stands.guarantee_stands.Goals as goal
 

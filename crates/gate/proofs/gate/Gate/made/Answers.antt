@@ -1,4 +1,4 @@
-use Rattle.std.proofs.Common.{◌≡◌, refl}
+use Rattle.std.proofs.Common.{refl}
 use Rattle.orders.specs.Services.{Lawful}
 use Rattle.gate.specs.Gates.{fresh_rows}
 use Rattle.gate.proofs.Gatesteps.{new_empty, new_places, new_reach, same_width}

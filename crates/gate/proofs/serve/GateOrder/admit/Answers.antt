@@ -1,4 +1,4 @@
-use Rattle.std.proofs.Common.{◌≡◌, ◌<◌, ◌≤◌, length, sym, arith, rules}
+use Rattle.std.proofs.Common.{◌<◌, ◌≤◌, length, sym, arith, rules}
 use Rattle.orders.specs.Orders.{size}
 use Rattle.orders.specs.Services.{meaning, Lawful}
 use Rattle.gate.proofs.Gatesteps.{beside_set, unmarked_set, entered_set, closed_admit, below_admit, gate_admit}

@@ -1,4 +1,4 @@
-use Rattle.std.proofs.Common.{◌≡◌, ◌<◌, length, sym, ◌∙◌, arith, rules}
+use Rattle.std.proofs.Common.{◌<◌, length, sym, rules}
 use Rattle.orders.specs.Services.{Lawful}
 use Rattle.gate.proofs.Gatesteps.{held_known, moved_pass}
 use Rattle.gate.proofs.serve.GateOrder.pass.Goals as goal

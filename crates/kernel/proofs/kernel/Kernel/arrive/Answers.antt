@@ -1,4 +1,4 @@
-use Rattle.std.proofs.Common.{◌≡◌, ℕ, ◌<◌, ◌≤◌, true, false, None, Ok, Err, Result, sym, refl, ap, ◌∙◌, subst, arith}
+use Rattle.std.proofs.Common.{ℕ, ◌<◌, Err, Result, sym, ap, ◌∙◌, subst, arith}
 use Rattle.orders.proofs.Answered.{asked_some}
 use Rattle.runs.specs.declared.call.Call.TheVariants.{Arrive}
 use Rattle.runs.specs.declared.refusal.Refusal.{Refusal}

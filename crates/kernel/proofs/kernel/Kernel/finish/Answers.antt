@@ -1,4 +1,4 @@
-use Rattle.std.proofs.Common.{◌≡◌, ℕ, ◌<◌, sym, refl, ap, ◌∙◌, subst, arith}
+use Rattle.std.proofs.Common.{ℕ, ◌<◌, subst, arith}
 use Rattle.runs.specs.declared.call.Call.TheVariants.{Finish}
 use Rattle.kernel.specs.Views.{done}
 use Rattle.kernel.specs.Promises.{Took}

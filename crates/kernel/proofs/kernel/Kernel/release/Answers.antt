@@ -1,6 +1,5 @@
-use Rattle.std.proofs.Common.{◌≡◌, ℕ, ◌<◌, ◌≤◌, true, false, None, Ok, Err, Option, Result, sym, refl, ap, ◌∙◌, subst, arith}
+use Rattle.std.proofs.Common.{ℕ, ◌<◌, Ok, Err, subst, arith}
 use Rattle.runs.specs.declared.call.Call.TheVariants.{Release}
-use Rattle.runs.specs.declared.refusal.Refusal.{Refusal}
 use Rattle.runs.specs.declared.refusal.Refusal.TheVariants.{Order}
 use Rattle.kernel.specs.Views.{handed}
 use Rattle.kernel.specs.Promises.{Took}

@@ -1,4 +1,4 @@
-use Rattle.std.proofs.Common.{◌≡◌, ℕ, ◌<◌, ◌≤◌, true, false, Some, None, Ok, Err, Result, sym, refl, ap, ◌∙◌, subst, arith}
+use Rattle.std.proofs.Common.{◌≡◌, ℕ, ◌<◌, true, false, Some, Ok, Err, sym, refl, ap, ◌∙◌, subst, arith}
 use Rattle.orders.specs.Orders.{asked}
 use Rattle.runs.specs.declared.call.Call.TheVariants.{Request}
 use Rattle.runs.specs.declared.refusal.Refusal.{Refusal}

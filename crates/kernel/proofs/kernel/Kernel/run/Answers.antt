@@ -1,4 +1,4 @@
-use Rattle.std.proofs.Common.{◌<◌, ◌≤◌, length, arith, rules}
+use Rattle.std.proofs.Common.{◌<◌, ◌≤◌, length, rules}
 use Rattle.kernel.proofs.Holding.{holds_list}
 use Rattle.kernel.proofs.Running.{sofar_none, sofar_more, sofar_all}
 use Rattle.kernel.proofs.kernel.Kernel.run.Goals as goal
