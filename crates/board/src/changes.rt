@@ -29,7 +29,7 @@ impl Board {
     // Changes the record of a task, and with it who runs and who is blocked.
     pub(crate) fn put(&mut self, task: TaskNo, new: TaskRecord)
         requires named { named new.state ≡ true }
-        requires short { new.blocked ≤ self.now.now }
+        requires short { new.blocked ≤ self.old.now }
         ensures { Put self.old task.number new self.new }
     {
         let t = task.get() as usize;

@@ -13,7 +13,7 @@ use runs::Refusal;
 impl Board {
     // Whether an event of a task's job would be accepted, or why not.
     pub fn may(&self, task: TaskNo, event: TaskEvent) -> Result<(), Refusal>
-        ensures { result ≡ verdict (event_refusal (row self.now task.number) (runs_in (jobs_of self.now.rows) self.now.cores task.number) event) }
+        ensures { result ≡ verdict (event_refusal (row self.entry.now task.number) (runs_in (jobs_of self.entry.now.rows) self.entry.now.cores task.number) event) }
     {
         let mut record = self.record(task);
         record.step(event, self.runs(task))
@@ -34,7 +34,7 @@ impl Board {
 
     // The resource that a task's job holds, if any.
     pub fn held(&self, task: TaskNo) -> Option<ResourceNo>
-        ensures { MatchOption result (is_holding (row self.now task.number).state ≡ false) (λ r. (row self.now task.number).state ≡ Holding r.number) }
+        ensures { MatchOption result (is_holding (row self.entry.now task.number).state ≡ false) (λ r. (row self.entry.now task.number).state ≡ Holding r.number) }
     {
         let state = self.record(task).state;
         match state {

@@ -4,6 +4,10 @@
 
 #![tactic(auto)]
 
+ghost use Rattle.std.specs.Prelude.{◌≡◌, ℕ, true};
+ghost use Rattle.jobs.specs.declared.state.TaskState.TheVariants.{Idle};
+ghost use Rattle.kernel.specs.Views.{facts_of, state_of};
+
 use driver::{Hold, Ticket, Unclosed, claim, close, lay_down, open};
 use first_come::FirstCome;
 use gate::Gate;
@@ -182,18 +186,56 @@ fn close_held(
     }
 }
 
-// Holds that are still to be closed, of the camera and of the arm.
+// Whose holds could not be closed.
 #[derive(Debug, Drop)]
 struct Left {
-    camera: Option<Hold>,
-    arm: Option<Hold>,
+    camera: bool,
+    arm: bool,
+}
+
+// A kernel on one core, for the camera and the arm, with no job.
+fn idle_kernel() -> Kernel<Gate<FirstCome>, Deadline>
+    ensures quiet { (t : ℕ) → ((state_of result).jobs.state t ≡ Idle) }
+    ensures checked { (facts_of result).checked ≡ true }
+{
+    let facts = Facts {
+        cores: 1,
+        tasks: 2,
+        resources: 1,
+    };
+    start(facts, gated_line(1), Deadline)
+}
+
+// The program ends with a hold that could not be closed: in a kernel with no job
+// it is outdated, so closing it there ends it.
+fn lose(hold: Hold) {
+    let mut idle = idle_kernel();
+    match close(&mut idle, hold) {
+        Ok(_) => {}
+        Err(Unclosed::Ended) => {}
+        Err(Unclosed::Kept(_, _)) => {}
+    }
+}
+
+// Whether there was a hold, which is lost.
+fn lost(held: Option<Hold>) -> bool {
+    match held {
+        Some(hold) => {
+            lose(hold);
+            true
+        }
+        None => false,
+    }
 }
 
 // Nothing may be left at the end.
 fn at_end(camera: Option<Hold>, arm: Option<Hold>) -> Result<(), Left> {
     match (camera, arm) {
         (None, None) => Ok(()),
-        (camera, arm) => Err(Left { camera, arm }),
+        (camera, arm) => Err(Left {
+            camera: lost(camera),
+            arm: lost(arm),
+        }),
     }
 }
 
@@ -269,12 +311,7 @@ fn ticket_of_a_job_that_is_over(
 }
 
 fn main(rt: HostRuntime) -> Result<(), Left> {
-    let facts = Facts {
-        cores: 1,
-        tasks: 2,
-        resources: 1,
-    };
-    let mut kernel = start(facts, gated_line(1), Deadline);
+    let mut kernel = idle_kernel();
     let _ = println!(rt;
         "Refused with 6: it waits; 7: it does not run; 13: the ticket or hold is outdated."
     );

@@ -85,7 +85,7 @@ pub(crate) fn read_form<const N: usize>(
     line: &[u8],
     form: [Wanted; N],
 ) -> Result<[u32; N], TextFault>
-    ensures { result ≡ form_read form line.now }
+    ensures { result ≡ form_read form.entry line.now }
 {
     let mut numbers = [0; N];
     let mut fit = true;
