@@ -9,7 +9,6 @@ use orders::Order;
 
 // A resource that is held by a ticket's task. It is a token of plain numbers that
 // has to be spent by close: it may not be let go before.
-#[derive(Debug)]
 pub struct Hold {
     task: u32,
     resource: u32,

@@ -1,4 +1,4 @@
-use Rattle.std.proofs.Common.{◌≡◌, ℕ, ap, ◌∙◌, arith}
+use Rattle.std.proofs.Common.{ℕ, ap, ◌∙◌, arith}
 use Rattle.keys.specs.declared.kind.KeyKind
 use Rattle.keys.specs.declared.deadline.Deadline.{Deadline}
 use Rattle.keys.specs.Deadlines.{deadline_ranged, due, sooner, due_code}
