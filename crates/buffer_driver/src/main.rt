@@ -228,14 +228,19 @@ fn lost(held: Option<Hold>) -> bool {
     }
 }
 
+// Whose holds are left, and lost.
+fn what_is_left(camera: Option<Hold>, arm: Option<Hold>) -> Left {
+    Left {
+        camera: lost(camera),
+        arm: lost(arm),
+    }
+}
+
 // Nothing may be left at the end.
 fn at_end(camera: Option<Hold>, arm: Option<Hold>) -> Result<(), Left> {
     match (camera, arm) {
         (None, None) => Ok(()),
-        (camera, arm) => Err(Left {
-            camera: lost(camera),
-            arm: lost(arm),
-        }),
+        (camera, arm) => Err(what_is_left(camera, arm)),
     }
 }
 
