@@ -9,7 +9,12 @@ pub struct Case {
     times: u32,
 }
 
-pub fn of_part(name: &'static str, head: &'static str, part: &'static [u8], times: u32) -> Case {
+pub(crate) fn of_part(
+    name: &'static str,
+    head: &'static str,
+    part: &'static [u8],
+    times: u32,
+) -> Case {
     Case {
         name,
         head,
@@ -19,7 +24,7 @@ pub fn of_part(name: &'static str, head: &'static str, part: &'static [u8], time
 }
 
 // The bytes of a case.
-pub fn built(heap: Global, case: Case) -> Result<Vec<u8>, AllocError> {
+pub(crate) fn built(heap: Global, case: Case) -> Result<Vec<u8>, AllocError> {
     let mut bytes = Vec::new(heap);
     bytes.extend_from_slice(case.head.as_bytes())?;
     for _ in 0..case.times {

@@ -15,7 +15,7 @@ fn add_turn(heap: Global, text: &mut String, task: u32) -> Result<(), AllocError
 // A header, and then 64 tasks that want one resource, the later the more urgent.
 // Each has its turn: those from `split` on in the order in which they came, then
 // the others by rank.
-pub fn contention(heap: Global, header: &str, split: u32) -> Result<String, AllocError> {
+pub(crate) fn contention(heap: Global, header: &str, split: u32) -> Result<String, AllocError> {
     let mut text = String::from_str(heap, header)?;
     for task in (0..64u32).rev() {
         add_claim(heap, &mut text, task)?;
