@@ -1,13 +1,16 @@
 -- How many pending jobs are ahead, when one record changes
-use Rattle.std.proofs.Common.{◌≡◌, ℕ, ◌+◌, ◌<◌, ◌≤◌, Bool, cond, ◌&&◌, ◌≢◌, List, length, get_or, set, sym, ap, ◌∙◌, inl, inr, arith}
+use Rattle.std.proofs.Common.{◌≡◌, ℕ, ◌+◌, ◌<◌, ◌≤◌, Bool, cond, ◌&&◌, ◌≢◌, List, length, get_or, set, take, filter, count_by, sym, ap, ◌∙◌, arith}
 use Rattle.std.proofs.lemmas.List.{get_or-set_same, get_or-set_other}
-use Rattle.std.proofs.lemmas.Bool.{cases_eq}
+use Rattle.std.proofs.lemmas.List.{take_all}
+use Rattle.std.proofs.lemmas.List.FromFn.{length-enumerate_from}
+use Rattle.std.proofs.lemmas.List.Sums.{length-filter}
+use Rattle.std.specs.List.{enumerate_from}
 use Rattle.orders.specs.Counting.{ahead as is_ahead}
 use Rattle.orders.proofs.Counts.{tally_top}
 use Rattle.jobs.specs.Jobs.{pending, demand}
 use Rattle.board.specs.declared.record.TaskRecord.{TaskRecord}
-use Rattle.board.specs.Boards.{blank, jobs_of, Counted}
-use Rattle.board.proofs.Tallies.{tally_part, tally_shift}
+use Rattle.board.specs.Boards.{blank, jobs_of}
+use Rattle.board.proofs.Tallies.{tally_part, tally_shift, tally_places}
 
 -- the job of the record x, of task i, is pending and ahead of that of the record y, of task k
 abbrev pub before : TaskRecord → ℕ → TaskRecord → ℕ → Bool
@@ -44,45 +47,26 @@ module _ (rows : List TaskRecord) (t : ℕ) (old : TaskRecord) (k : ℕ) (known 
   demand_shifts =
       omega (arith, was, tally_shift (rival earlier k) (rival rows k) t 64 known (λ i l ne. sym (before_same (get_or-set_other rows t i old blank ne) at_k i k)))
 
+-- a demand, counted over the table
+pub demand_counted : (rows : List TaskRecord) (k : ℕ) → length rows ≡ 64 → length (filter (λ (p : ℕ × TaskRecord). before p.1 p.0 (get_or rows k blank) k) (enumerate_from 0 rows)) ≡ demand (jobs_of rows) k
+unfolding demand
+demand_counted rows k long =
+    let all = enumerate_from 0 rows in
+    let whole : take 64 all ≡ all = take_all 64 all (rw (length-enumerate_from, long) (omega arith)) in
+    length-filter _ all ∙ ap (count_by (λ (p : ℕ × TaskRecord). before p.1 p.0 (get_or rows k blank) k)) (sym whole) ∙ tally_places (λ i x. before x i (get_or rows k blank) k) blank rows 64 (rw long (omega arith))
+
 -- no more than 64 are ahead
-pub demand_top : (rows : List TaskRecord) (k : ℕ) → demand (jobs_of rows) k ≤ 64
+demand_top : (rows : List TaskRecord) (k : ℕ) → demand (jobs_of rows) k ≤ 64
 unfolding demand
 demand_top rows k = tally_top (rival rows k) 64
 
--- the counts below n are those of the table, but for that of t, and the others are as they were
-pub record Shifting (rows : List TaskRecord) (t : ℕ) (start list : List ℕ) (n : ℕ) : Type 0 where
-  pub done : (i : ℕ) → i < n → i ≢ t → get_or list i 0 ≡ demand (jobs_of rows) i
-  pub left : (i : ℕ) → n ≤ i → get_or list i 0 ≡ get_or start i 0
+module _ (rows : List TaskRecord) (t : ℕ) (old : TaskRecord) (k : ℕ) (known : t < 64) (long : length rows ≡ 64) (apart : k ≢ t) (count : ℕ) (was : count ≡ demand (jobs_of (set rows t old)) k) where
+  -- the count of k can lose one where it has to, and is small
+  pub demand_fits : (lost : Bool) → lost ≡ before old t (get_or rows k blank) k → (cond lost 1 0 ≤ count) × (count ≤ 64)
+  demand_fits lost e = (rw (was, e) (demand_holds rows t old k known long apart), rw was (demand_top (set rows t old) k))
 
-module _ (rows : List TaskRecord) (t : ℕ) (old : TaskRecord) (start list : List ℕ) (n : ℕ) (known : t < 64) (long : length rows ≡ 64) (counted : Counted (set rows t old) start) (s : Shifting rows t start list n) where
-  -- the count at n can lose one where it has to, and is small
-  pub shifting_fits : n < 64 → n ≢ t → (lost : Bool) → lost ≡ before old t (get_or rows n blank) n → (cond lost 1 0 ≤ get_or list n 0) × (get_or list n 0 ≤ 64)
-  shifting_fits l ne lost e =
-      let a : get_or list n 0 ≡ demand (jobs_of (set rows t old)) n = s.left n (omega arith) ∙ counted n l in
-      (rw (a, e) (demand_holds rows t old n known long ne), rw a (demand_top (set rows t old) n))
-
-  -- one more count is shifted
-  pub shifting_more : n < 64 → n ≢ t → n < length list → (lost gained : Bool) → lost ≡ before old t (get_or rows n blank) n → gained ≡ before (get_or rows t blank) t (get_or rows n blank) n → (x : ℕ) →
-      x + cond lost 1 0 ≡ get_or list n 0 + cond gained 1 0 → Shifting rows t start (set list n x) (n + 1)
-  shifting_more l ne m lost gained e f x h =
-      let a : get_or list n 0 ≡ demand (jobs_of (set rows t old)) n = s.left n (omega arith) ∙ counted n l in
-      let d : demand (jobs_of rows) n + cond lost 1 0 ≡ demand (jobs_of (set rows t old)) n + cond gained 1 0 = rw (e, f) (demand_shifts rows t old n known long ne) in
-      let is : x ≡ demand (jobs_of rows) n = omega arith in
-      record {
-        done = λ i k o. elim (cases_eq i n) [
-          | inl q ↦ rw (q, get_or-set_same list n x 0 m) is
-          | inr q ↦ rw (get_or-set_other list n i x 0 q) (s.done i (omega arith) o)
-        ];
-        left = λ i k. rw (get_or-set_other list n i x 0 (omega arith)) (s.left i (omega arith));
-      }
-
-  -- the count of t itself is left out
-  pub shifting_skips : n ≡ t → Shifting rows t start list (n + 1)
-  shifting_skips e = record { done = λ i k o. s.done i (omega arith) o; left = λ i k. s.left i (omega arith) }
-
-  -- and at last counted anew
-  pub shifting_ends : 64 ≤ n → t < length list → (x : ℕ) → x ≡ demand (jobs_of rows) t → Counted rows (set list t x)
-  shifting_ends l m x e = λ i k. elim (cases_eq i t) [
-    | inl q ↦ rw (q, get_or-set_same list t x 0 m) e
-    | inr q ↦ rw (get_or-set_other list t i x 0 q) (s.done i (omega arith) q)
-  ]
+  -- and shifted it is the new one
+  pub demand_moved : (lost gained : Bool) → lost ≡ before old t (get_or rows k blank) k → gained ≡ before (get_or rows t blank) t (get_or rows k blank) k → (x : ℕ) → x + cond lost 1 0 ≡ count + cond gained 1 0 → x ≡ demand (jobs_of rows) k
+  demand_moved lost gained e f x h =
+      let d : demand (jobs_of rows) k + cond lost 1 0 ≡ demand (jobs_of (set rows t old)) k + cond gained 1 0 = rw (e, f) (demand_shifts rows t old k known long apart) in
+      omega arith

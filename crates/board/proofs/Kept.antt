@@ -1,5 +1,5 @@
 -- What the ghost fields of a board say, where it is new and where a record changed
-use Rattle.std.proofs.Common.{◌≡◌, ℕ, zero, suc, ◌<◌, ◌≤◌, Bool, false, List, length, get_or, set, replicate, sym, refl, ◌∙◌, subst, inl, inr, arith}
+use Rattle.std.proofs.Common.{◌≡◌, ℕ, ◌<◌, ◌≤◌, Bool, false, List, length, get_or, set, sym, ◌∙◌, subst, inl, inr, arith}
 use Rattle.std.proofs.lemmas.List.{get_or-set_same, get_or-set_other, set-set, set-get_or}
 use Rattle.std.proofs.lemmas.Bool.{cases_eq}
 use Rattle.orders.proofs.Counts.{tally_none}
@@ -7,12 +7,6 @@ use Rattle.jobs.specs.Jobs.{running, demand, blocked}
 use Rattle.board.specs.declared.record.TaskRecord.{TaskRecord}
 use Rattle.board.specs.declared.record.ResourceRecord.{ResourceRecord}
 use Rattle.board.specs.Boards.{blank, unheld, Known, Counted, Run, Blocked}
-
--- a list of equal elements, read with such an element as the default
-pub fresh : {X : Type 0} (n : ℕ) (x d : X) → x ≡ d → (k : ℕ) → get_or (replicate n x) k d ≡ d
-fresh zero x d e k = refl
-fresh (suc n) x d e zero = e
-fresh (suc n) x d e (suc k) = fresh n x d e k
 
 -- ---- a new board
 

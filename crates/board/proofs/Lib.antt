@@ -4,3 +4,4 @@ pub mod Ranking
 pub mod Passes
 pub mod Ticks
 pub mod Kept
+pub mod Made

@@ -9,7 +9,7 @@ use Rattle.jobs.specs.declared.state.TaskState.{TaskState}
 use Rattle.jobs.specs.declared.state.TaskState.TheVariants.{Idle, Ready, Waiting, Holding}
 use Rattle.jobs.specs.Jobs.{Jobs, pending, active, lends, lead, precedes, running, demand}
 use Rattle.jobs.proofs.Counting.{tally_total}
-use Rattle.jobs.proofs.Leads.{ahead_past, best_from, active_pending, lends_parts, RunsFor, lead_for}
+use Rattle.jobs.proofs.Leads.{ahead_past, best_from, lends_parts, lead_pending}
 use Rattle.board.specs.Boards.{named}
 use Rattle.board.specs.Settling.{least, inherited, rank, foremost, sharing}
 
@@ -72,11 +72,6 @@ module _ (j : Jobs) where
   unfolding lead
   lead_below k l = elim (best_from j.code (λ i. lends (j.state k) (j.state i)) k 64) [ inl e ↦ rw e l | inr e ↦ e.0 ]
 
-  -- the lead of a job that is ready or holds is pending
-  lead_pending : (k : ℕ) → active (j.state k) ≡ true → pending (j.state (lead j k)) ≡ true
-  unfolding RunsFor
-  lead_pending k a = elim (lead_for j k) [ inl e ↦ rw e (active_pending (j.state k) a) | inr e ↦ rw e.2 ]
-
   pub rank_below : (k : ℕ) → k < 64 → rank j k < 64
   rank_below k l = demand_below (lead j k) (lead_below k l)
 
@@ -105,7 +100,7 @@ module _ (j : Jobs) where
   -- one precedes another by rank
   precedes_rank : (i k : ℕ) → i < 64 → precedes j i k ≡ (active (j.state i) && ltb (rank j i) (rank j k))
   precedes_rank i k l = elim (cases_Bool (active (j.state i))) [
-    | inl a ↦ rw a (ahead_demand (lead j i) (lead j k) (lead_below i l) (lead_pending i a))
+    | inl a ↦ rw a (ahead_demand (lead j i) (lead j k) (lead_below i l) (lead_pending j i a))
     | inr a ↦ rw a
   ]
 

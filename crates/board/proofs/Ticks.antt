@@ -1,17 +1,18 @@
 -- One more turn of the passes of a tick, and what a tick leaves
-use Rattle.std.proofs.Common.{◌≡◌, ℕ, suc, ◌+◌, ◌<◌, ◌≤◌, Bool, true, false, ◌&&◌, ◌||◌, ltb, List, length, get_or, set, replicate, sym, refl, ap, ◌∙◌, subst, inl, inr, arith}
+use Rattle.std.proofs.Common.{◌≡◌, ◌≢◌, ℕ, suc, ◌+◌, ◌<◌, ◌≤◌, Bool, true, false, ◌&&◌, ◌||◌, ltb, List, length, get_or, set, replicate, sym, refl, ap, ◌∙◌, subst, inl, inr, arith}
 use mathlib.Core.Path.{fun_ext}
-use Rattle.std.proofs.lemmas.List.{length-set, get_or-set_same, get_or-set_other, get_or-replicate, get_or_past}
-use Rattle.std.proofs.lemmas.Bool.{cases_eq, cases_lt, cases_Bool, ltb-true, ne_eqb}
+use Rattle.std.proofs.lemmas.List.{length-set, get_or-set_same, get_or-set_other, get_or_past}
+use Rattle.std.proofs.lemmas.Bool.{cases_eq, cases_lt, cases_Bool, ltb-true, eq-eqb, ne_eqb}
 use Rattle.std.proofs.lemmas.Bool.Decides.{nat_tests}
 use Rattle.orders.specs.Counting.{tally}
 use Rattle.orders.proofs.Counts.{tally_step, tally_same, tally_none}
+use Rattle.board.proofs.Tallies.{Holds, holds_none, holds_set, holds_same}
 use Rattle.jobs.specs.declared.state.TaskState.{TaskState}
 use Rattle.jobs.specs.declared.state.TaskState.TheVariants.{Idle, Ready, Waiting, Holding}
-use Rattle.jobs.specs.Jobs.{Jobs, holds_it, running, demand, blocked, busy}
+use Rattle.jobs.specs.Jobs.{Jobs, holds_it, running, blocked, busy}
 use Rattle.board.specs.declared.record.TaskRecord.{TaskRecord}
 use Rattle.board.specs.declared.record.ResourceRecord.{ResourceRecord}
-use Rattle.board.specs.Boards.{blank, unheld, jobs_of, ticked, ticked_hold, named, Known, Counted, Run, Blocked, used_by, Used, Done}
+use Rattle.board.specs.Boards.{blank, unheld, jobs_of, ticked, ticked_hold, named, Known, Run, Blocked, used_by, Used, Done}
 
 pub done_none : {X : Type 0} (f : ℕ → X → X) (d : X) (xs : List X) → Done f d xs xs 0
 done_none f d xs = record { long = refl; done = λ k l. absurd (omega arith); left = λ k l. refl }
@@ -27,27 +28,36 @@ done_set f d xs ys n x a l e = record {
   left = λ k m. rw (get_or-set_other ys n k x d (omega arith)) (a.left k (omega arith));
 }
 
--- the next element stays
-pub done_skip : {X : Type 0} (f : ℕ → X → X) (d : X) (xs ys : List X) (n : ℕ) → Done f d xs ys n → ((x : X) → f n x ≡ x) → Done f d xs ys (n + 1)
-done_skip f d xs ys n a same = record {
-  long = a.long;
-  done = λ k m. elim (cases_eq k n) [ inl q ↦ rw (q, same) (a.left n (omega arith)) | inr q ↦ a.done k (omega arith) ];
-  left = λ k m. a.left k (omega arith);
-}
-
 -- some of the first n passed, or none yet
 some_more : (f : ℕ → Bool) (n : ℕ) → ltb 0 (tally f (n + 1)) ≡ (ltb 0 (tally f n) || f n)
 some_more f n = rw (tally_step f n) (elim (cases_Bool (f n)) [ inl e ↦ rw e (grind (arith, nat_tests)) | inr e ↦ rw e (grind (arith, nat_tests)) ])
 
-pub used_none : (rows : List TaskRecord) (run : List Bool) (r : ℕ) → r < 32 → get_or (replicate 32 false) r false ≡ used_by rows run r 0
-unfolding tally
-used_none rows run r l = get_or-replicate 32 r false false l
+-- a job that holds nothing holds no resource
+holds_not : (s : TaskState) (r : ℕ) → ((q : ℕ) → s ≢ Holding q) → holds_it r s ≡ false
+holds_not Idle r h = refl
+holds_not Ready r h = refl
+holds_not (Waiting q) r h = refl
+holds_not (Holding q) r h = absurd (h q refl)
 
-pub used_more : (rows now : List TaskRecord) (run used next : List Bool) (n : ℕ) → get_or now n blank ≡ get_or rows n blank → ((r : ℕ) → r < 32 → get_or used r false ≡ used_by rows run r n) →
-    ((r : ℕ) → r < 32 → get_or next r false ≡ (get_or used r false || (holds_it r (get_or now n blank).state && get_or run n false))) →
-    (r : ℕ) → r < 32 → get_or next r false ≡ used_by rows run r (n + 1)
-used_more rows now run used next n e inv step r l =
-    rw (some_more (λ k. holds_it r (get_or rows k blank).state && get_or run k false) n, ← inv r l, ← e) (step r l)
+module _ (rows : List TaskRecord) (run : List Bool) where
+  -- which resources are held by a job below n that runs
+  abbrev pub Using : List Bool → ℕ → Type 0
+  Using used n = Holds (used_by rows run) false 32 used n
+
+  pub using_none : Using (replicate 32 false) 0
+  unfolding tally
+  using_none = holds_none _ false false 32 (λ r. refl)
+
+  using_step : (r n : ℕ) → used_by rows run r (n + 1) ≡ (used_by rows run r n || (holds_it r (get_or rows n blank).state && get_or run n false))
+  using_step r n = some_more (λ k. holds_it r (get_or rows k blank).state && get_or run k false) n
+
+  -- one more job holds q
+  pub using_takes : (used : List Bool) (q n : ℕ) → (get_or rows n blank).state ≡ Holding q → q < 32 → Using used n → Using (set used q (get_or used q false || get_or run n false)) (n + 1)
+  using_takes used q n e l h = holds_set _ false 32 used n q _ h l (rw (using_step q n, e, eq-eqb q q refl, h.all q l)) (λ r i. rw (using_step r n, e, ne_eqb q r (λ z. i (sym z))) (grind (arith, nat_tests)))
+
+  -- one more job holds nothing
+  pub using_keeps : (used : List Bool) (n : ℕ) → ((q : ℕ) → (get_or rows n blank).state ≢ Holding q) → Using used n → Using used (n + 1)
+  using_keeps used n e h = holds_same _ false 32 used n h (λ r. rw (using_step r n, holds_not (get_or rows n blank).state r e) (grind (arith, nat_tests)))
 
 -- ---- what a tick leaves
 
@@ -88,25 +98,20 @@ holds_no_other Ready r h l = refl
 holds_no_other (Waiting q) r h l = refl
 holds_no_other (Holding q) r h l = ne_eqb q r (let k = ltb-true q 32 h in λ e. omega arith)
 
-module _ (rows after : List TaskRecord) (m : ℕ) (run block : List Bool) (done : Done (λ k x. ticked (get_or block k false) x) blank rows after 64) where
+module _ (rows after : List TaskRecord) (n : ℕ) (block : List Bool) (done : Done (λ k x. ticked (get_or block k false) x) blank rows after n) where
   -- no job changes
   pub ticked_jobs : jobs_of after ≡ jobs_of rows
   ticked_jobs =
-      let states : (λ (k : ℕ). (get_or after k blank).state) ≡ (λ k. (get_or rows k blank).state) = fun_ext (field_kept (λ x. x.state) _ blank rows after 64 done (λ k x. ticked_state (get_or block k false) x)) in
-      let codes : (λ (k : ℕ). (get_or after k blank).code) ≡ (λ k. (get_or rows k blank).code) = fun_ext (field_kept (λ x. x.code) _ blank rows after 64 done (λ k x. ticked_code (get_or block k false) x)) in
+      let states : (λ (k : ℕ). (get_or after k blank).state) ≡ (λ k. (get_or rows k blank).state) = fun_ext (field_kept (λ x. x.state) _ blank rows after n done (λ k x. ticked_state (get_or block k false) x)) in
+      let codes : (λ (k : ℕ). (get_or after k blank).code) ≡ (λ k. (get_or rows k blank).code) = fun_ext (field_kept (λ x. x.code) _ blank rows after n done (λ k x. ticked_code (get_or block k false) x)) in
       λ i. record { state = states i; code = codes i }
 
-  pub ticked_known : Known rows → Known after
-  ticked_known known = subst (λ (j : Jobs). (t : ℕ) → named (j.state t) ≡ true) (sym ticked_jobs) known
-
-  pub ticked_counted : (ahead : List ℕ) → Counted rows ahead → Counted after ahead
-  ticked_counted ahead counted = subst (λ (j : Jobs). (t : ℕ) → t < 64 → get_or ahead t 0 ≡ demand j t) (sym ticked_jobs) counted
-
+module _ (rows after : List TaskRecord) (m : ℕ) (run block : List Bool) (done : Done (λ k x. ticked (get_or block k false) x) blank rows after 64) where
   pub ticked_runs : Run rows m run → Run after m run
-  ticked_runs runs = subst (λ (j : Jobs). (t : ℕ) → t < 64 → get_or run t false ≡ running j m t) (sym ticked_jobs) runs
+  ticked_runs runs = subst (λ (j : Jobs). (t : ℕ) → t < 64 → get_or run t false ≡ running j m t) (sym (ticked_jobs rows after 64 block done)) runs
 
   pub ticked_blocks : Blocked rows m block → Blocked after m block
-  ticked_blocks blocks = subst (λ (j : Jobs). (t : ℕ) → t < 64 → get_or block t false ≡ blocked j m t) (sym ticked_jobs) blocks
+  ticked_blocks blocks = subst (λ (j : Jobs). (t : ℕ) → t < 64 → get_or block t false ≡ blocked j m t) (sym (ticked_jobs rows after 64 block done)) blocks
 
   pub ticked_short : (now : ℕ) → ((t : ℕ) → (get_or rows t blank).blocked ≤ now) → (t : ℕ) → (get_or after t blank).blocked ≤ now + 1
   ticked_short now short = field_raised (λ x. x.blocked) _ blank rows after 64 now done (λ k x. ticked_blocked (get_or block k false) x) short

@@ -9,7 +9,7 @@ use Rattle.board.specs.declared.event.TaskEvent.TheVariants.{Arrive, Request, Re
 use Rattle.board.specs.declared.record.TaskRecord.{TaskRecord}
 use Rattle.board.specs.declared.board.Board.{Board}
 use Rattle.board.specs.Boards.{begun, turned, asked, placed}
-use Rattle.board.specs.Calls.{Put}
+use Rattle.board.specs.Calls.{row, runs, Put}
 
 -- the first refusal of an event by the state of the job and whether it runs
 abbrev pub event_refusal : TaskRecord → Bool → TaskEvent → Option Refusal
@@ -24,6 +24,14 @@ event_refusal x runs Release =
 event_refusal x runs Finish =
     cond (not (pending x.state)) (Some NoJobPending) (cond (is_waiting x.state) (Some Waits)
     (cond (not runs) (Some DoesNotRun) (cond (is_holding x.state) (Some HoldsResource) None)))
+
+-- the same of the job of task t on a board
+abbrev pub refused : Board → ℕ → TaskEvent → Option Refusal
+refused b t e = event_refusal (row b t) (runs b t) e
+
+-- the refusal of a tick: its count is at the last number
+abbrev pub tick_refusal : Board → Option Refusal
+tick_refusal b = cond (nat_le 4294967295 b.ticks) (Some CountSpent) None
 
 -- the record that an accepted event leaves
 abbrev pub event_record : TaskRecord → TaskEvent → TaskRecord

@@ -1,14 +1,15 @@
-ghost use Rattle.std.specs.Prelude.{◌≡◌, ◌≤◌, true, false, nat_lt};
+ghost use Rattle.std.specs.Prelude.{◌≡◌, ◌≤◌, true, IsOk, IsErr};
 ghost use Rattle.jobs.specs.declared.state.TaskState.TheVariants.{Holding};
 ghost use Rattle.board.specs.Boards.{turned, begun_hold, named};
 ghost use Rattle.board.specs.Calls.{row, hold as hold_of, New, Put, PutHold, Ticked};
+ghost use Rattle.board.specs.Events.{verdict, tick_refusal};
 
 use crate::board::Board;
-use crate::demand::recount;
 use crate::record::{ResourceRecord, TaskRecord};
-use crate::settle::{blocked_set, running_set};
-use crate::tick::{tick_holds, tick_tasks};
+use crate::table::Table;
+use crate::tick::tick_holds;
 use jobs::{ResourceNo, TaskNo, TaskState};
+use runs::Refusal;
 
 impl Board {
     // A board for some cores, with no job on it and nothing counted yet.
@@ -17,10 +18,9 @@ impl Board {
     {
         Board {
             cores,
-            now: 0,
-            rows: [TaskRecord::new(); 64],
+            ticks: 0,
+            table: Table::new(),
             holds: [ResourceRecord::new(); 32],
-            ahead: [0; 64],
             running: [false; 64],
             blocked: [false; 64],
         }
@@ -29,15 +29,12 @@ impl Board {
     // Changes the record of a task, and with it who runs and who is blocked.
     pub(crate) fn put(&mut self, task: TaskNo, new: TaskRecord)
         requires named { named new.state ≡ true }
-        requires short { new.blocked ≤ self.old.now }
+        requires short { new.blocked ≤ self.old.ticks }
         ensures { Put self.old task.number new self.new }
     {
-        let t = task.get() as usize;
-        let old = self.rows[t];
-        self.rows[t] = new;
-        recount(&self.rows, &mut self.ahead, t, old);
-        self.running = running_set(&self.rows, &self.ahead, self.cores);
-        self.blocked = blocked_set(&self.rows, &self.ahead, &self.running, self.cores);
+        self.table.put(task, new);
+        self.running = self.table.running_set(self.cores);
+        self.blocked = self.table.blocked_set(&self.running, self.cores);
     }
 
     // A task's job comes to hold a resource: only its state changes.
@@ -57,19 +54,16 @@ impl Board {
     }
 
     // Counts a tick: for each blocked job, and for the hold of each resource whose
-    // holder runs. Where the count of ticks is at its last number, it answers false
-    // and nothing changes.
-    pub fn tick(&mut self) -> bool
-        ensures told { result ≡ nat_lt self.old.now 4294967295 }
-        ensures stays { result ≡ false → self.new ≡ self.old }
-        ensures goes { result ≡ true → Ticked self.old self.new }
+    // holder runs. Refused where the count of ticks is at its last number.
+    pub fn tick(&mut self) -> Result<(), Refusal>
+        ensures told { result ≡ verdict (tick_refusal self.old) }
+        ensures stays { IsErr result → self.new ≡ self.old }
+        ensures goes { IsOk result → Ticked self.old self.new }
     {
-        if self.now == u32::MAX {
-            return false;
-        }
-        let used = tick_tasks(&mut self.rows, &self.running, &self.blocked);
+        let ticks = self.ticks.checked_add(1).ok_or(Refusal::CountSpent)?;
+        let used = self.table.tick(&self.running, &self.blocked);
         tick_holds(&mut self.holds, &used);
-        self.now += 1;
-        true
+        self.ticks = ticks;
+        Ok(())
     }
 }

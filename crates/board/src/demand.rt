@@ -1,39 +1,32 @@
-ghost use Rattle.std.specs.Prelude.{◌≡◌, ◌+◌, ◌<◌, ◌≤◌, ◌&&◌, if◌then◌else◌, slice_set};
+ghost use Rattle.std.specs.Prelude.{◌≡◌, ◌+◌, ◌≤◌, ◌&&◌, if◌then◌else◌, slice_set};
 ghost use Rattle.orders.specs.Counting.{ahead as is_ahead};
 ghost use Rattle.jobs.specs.Jobs.{pending, demand as demand_of};
 ghost use Rattle.board.specs.Boards.{jobs_of, Counted};
 
 use crate::record::TaskRecord;
-use jobs::TaskState;
+use jobs::TaskNo;
+use orders::Rank;
 
-// A job arrived and has not finished.
-pub(crate) fn is_pending(state: TaskState) -> bool
-    ensures { result ≡ pending state }
+// The job of `rival`, which has the rank `rank`, is pending and ahead of a job of
+// rank `own`.
+fn is_before(rival: &TaskRecord, rank: Rank, own: Rank) -> bool
+    ensures { result ≡ (pending rival.now.state && is_ahead rank.code rank.task own.code own.task) }
 {
-    !matches!(state, TaskState::Idle)
-}
-
-// The job of `rival`, whose task is i, is pending and ahead of that of `own`,
-// whose task is k: its code is smaller, or the codes are equal and i is.
-fn is_before(rival: TaskRecord, i: usize, own: TaskRecord, k: usize) -> bool
-    ensures { result ≡ (pending rival.state && is_ahead rival.code i own.code k) }
-{
-    is_pending(rival.state) && (rival.code < own.code || (rival.code == own.code && i < k))
+    rival.is_pending() && rank.is_ahead_of(own)
 }
 
 // How many pending jobs are ahead of the job of a task.
-fn demand(rows: &[TaskRecord; 64], task: usize) -> u32
-    requires { task < 64 }
-    ensures { result ≡ demand_of (jobs_of rows.now) task }
+fn demand(rows: &[TaskRecord; 64], task: TaskNo) -> u32
+    ensures { result ≡ demand_of (jobs_of rows.now) task.number }
 {
-    let own = rows[task];
-    let mut before = 0;
-    for i in 0..64 {
-        if is_before(rows[i], i, own, task) {
-            before += 1;
-        }
-    }
-    before
+    let t = task.get() as usize;
+    let own = rows[t].rank(t);
+    let ahead = rows
+        .iter()
+        .enumerate()
+        .filter(|(i, rival)| is_before(rival, rival.rank(*i), own))
+        .count();
+    ahead as u32
 }
 
 // A count that loses one, gains one, both or neither.
@@ -41,27 +34,25 @@ fn shifted(count: u32, lost: bool, gained: bool) -> u32
     requires { ((if lost then 1 else 0) ≤ count) × (count ≤ 64) }
     ensures { result + (if lost then 1 else 0) ≡ count + (if gained then 1 else 0) }
 {
-    let rest = if lost { count - 1 } else { count };
-    if gained { rest + 1 } else { rest }
+    count - u32::from(lost) + u32::from(gained)
 }
 
 // Keeps the counts of the pending jobs ahead, where they are those of the table
 // `rows` with `old` as the record of `task`.
-pub(crate) fn recount(rows: &[TaskRecord; 64], ahead: &mut [u32; 64], task: usize, old: TaskRecord)
-    requires known { task < 64 }
-    requires counted { Counted (slice_set rows.now task old) ahead.old }
+pub(crate) fn recount(rows: &[TaskRecord; 64], ahead: &mut [u32; 64], task: TaskNo, old: TaskRecord)
+    requires { Counted (slice_set rows.now task.number old) ahead.old }
     ensures { Counted rows.now ahead.new }
 {
-    let new = rows[task];
-    for k in 0..64 {
-        if k != task {
-            let own = rows[k];
-            ahead[k] = shifted(
-                ahead[k],
-                is_before(old, task, own, k),
-                is_before(new, task, own, k),
-            );
-        }
+    let t = task.get() as usize;
+    let new = rows[t];
+    let (was, is) = (old.rank(t), new.rank(t));
+    // `iter_mut().zip(..)` was tried: the check knows nothing of what it writes.
+    for (k, count) in ahead.iter_mut().enumerate() {
+        let own = rows[k].rank(k);
+        *count = if k == t {
+            demand(rows, task)
+        } else {
+            shifted(*count, is_before(&old, was, own), is_before(&new, is, own))
+        };
     }
-    ahead[task] = demand(rows, task);
 }

@@ -12,6 +12,7 @@ mod questions;
 mod record;
 mod settle;
 mod step;
+mod table;
 mod tick;
 
 pub use board::Board;

@@ -1,7 +1,6 @@
 ghost use Rattle.std.specs.Prelude.{◌≡◌};
-ghost use Rattle.jobs.specs.Jobs.{running as runs_in};
-ghost use Rattle.board.specs.Boards.{jobs_of, Run};
-ghost use Rattle.board.specs.Calls.{row, hold as hold_of};
+ghost use Rattle.board.specs.Boards.{Run};
+ghost use Rattle.board.specs.Calls.{row, hold as hold_of, runs as runs_in};
 
 use crate::board::Board;
 use crate::record::{ResourceRecord, TaskRecord};
@@ -10,47 +9,46 @@ use jobs::{ResourceNo, TaskNo};
 impl Board {
     // How many ticks were counted.
     pub fn now(&self) -> u32
-        ensures { result ≡ self.entry.now.now }
+        ensures { result ≡ self.now.ticks }
     {
-        self.now
+        self.ticks
     }
 
     // What is kept of a task.
     pub fn record(&self, task: TaskNo) -> TaskRecord
-        ensures { result ≡ row self.entry.now task.number }
+        ensures { result ≡ row self.now task.number }
     {
-        self.rows[task.get() as usize]
+        self.table.rows[task.get() as usize]
     }
 
     // What is kept of a resource.
     pub fn hold(&self, resource: ResourceNo) -> ResourceRecord
-        ensures { result ≡ hold_of self.entry.now resource.number }
+        ensures { result ≡ hold_of self.now resource.number }
     {
         self.holds[resource.get() as usize]
     }
 
     // Whether a task's job runs.
     pub fn runs(&self, task: TaskNo) -> bool
-        ensures { result ≡ runs_in (jobs_of self.entry.now.rows) self.entry.now.cores task.number }
+        ensures { result ≡ runs_in self.now task.number }
     {
         self.running[task.get() as usize]
     }
 
     // Which tasks' jobs run.
     pub fn who_runs(&self) -> [bool; 64]
-        ensures { Run self.entry.now.rows self.entry.now.cores result }
+        ensures { Run self.now.table.rows self.now.cores result }
     {
-        let set = self.running;
-        set
+        self.running
     }
 
-    // The longest hold of a resource so far; 0 for a number that no resource has.
+    // The longest hold of a resource so far; 0 for a number that no resource has, which
+    // nobody can have held.
     pub fn longest(&self, resource: u32) -> u32
-        ensures { result ≡ (hold_of self.entry.now resource).longest }
+        ensures { result ≡ (hold_of self.now resource).longest }
     {
-        match self.holds.get(resource as usize) {
-            Some(hold) => hold.longest,
-            None => 0,
-        }
+        self.holds
+            .get(resource as usize)
+            .map_or(0, |hold| hold.longest)
     }
 }

@@ -1,12 +1,14 @@
-ghost use Rattle.std.specs.Prelude.{◌≡◌, ◌-◌, ◌^◌, ◌<◌, true};
+ghost use Rattle.std.specs.Prelude.{◌≡◌, ◌-◌, ◌^◌, ◌<◌};
+ghost use Rattle.jobs.specs.Jobs.{pending, active};
 ghost use Rattle.board.specs.Boards.{blank, unheld, begun_hold, raised, ticked_hold, ticked};
 
 use jobs::TaskState;
+use orders::Rank;
 
 // What is kept of a task: where its job stands, the code of its key, and of its
 // last request the resource, the ticket's serial number, the count it was told
-// and how many ticks the job was blocked since.
-#[derive(Clone, Copy)]
+// and how many ticks the job was blocked since. At the start every number is 0.
+#[derive(Clone, Copy, Debug, PartialEq, Eq)]
 pub struct TaskRecord {
     pub state: TaskState,
     pub code: u64,
@@ -31,6 +33,31 @@ impl TaskRecord {
         }
     }
 
+    // The job arrived and has not finished.
+    pub(crate) fn is_pending(&self) -> bool
+        ensures { result ≡ pending self.now.state }
+    {
+        self.state != TaskState::Idle
+    }
+
+    // The job is ready or holding, so it could run.
+    pub(crate) fn is_active(&self) -> bool
+        ensures { result ≡ active self.now.state }
+    {
+        matches!(self.state, TaskState::Ready | TaskState::Holding(_))
+    }
+
+    // The rank of the job, where the record is that of the task: its place in the table.
+    pub(crate) fn rank(&self, task: usize) -> Rank
+        requires { task < 64 }
+        ensures { result ≡ record { code = self.now.code; task = task } }
+    {
+        Rank {
+            code: self.code,
+            task: task as u32,
+        }
+    }
+
     // One tick more, which finds the job blocked or not.
     pub(crate) fn tick(&mut self, blocked: bool)
         requires { self.old.blocked < 2 ^ 32 - 1 }
@@ -44,7 +71,7 @@ impl TaskRecord {
 
 // What is kept of a resource: how many ticks the present hold was in use, and
 // the most that any hold was.
-#[derive(Clone, Copy)]
+#[derive(Clone, Copy, Debug, PartialEq, Eq)]
 pub struct ResourceRecord {
     pub used: u32,
     pub longest: u32,
@@ -68,21 +95,21 @@ impl ResourceRecord {
         self.used = 0;
     }
 
-    // One tick more for the present hold.
-    pub(crate) fn count(&mut self)
+    // One tick more, which finds the resource in use or not.
+    pub(crate) fn count(&mut self, used: bool)
         requires { self.old.used < 2 ^ 32 - 1 }
-        ensures { self.new ≡ ticked_hold true self.old }
+        ensures { self.new ≡ ticked_hold used self.old }
     {
-        self.used += 1;
-        self.raise();
+        if used {
+            self.used += 1;
+            self.raise();
+        }
     }
 
     // The longest hold is at least as long as the present one.
     fn raise(&mut self)
         ensures { self.new ≡ raised self.old }
     {
-        if self.longest < self.used {
-            self.longest = self.used;
-        }
+        self.longest = self.longest.max(self.used);
     }
 }

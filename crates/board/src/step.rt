@@ -23,40 +23,31 @@ impl TaskRecord {
             (TaskState::Idle, _) => Err(Refusal::NoJobPending),
             (TaskState::Waiting(_), _) => Err(Refusal::Waits),
             (TaskState::Ready, TaskEvent::Release) => Err(Refusal::HoldsNothing),
+            _ if !runs => Err(Refusal::DoesNotRun),
             (TaskState::Holding(_), TaskEvent::Release) => {
-                if !runs {
-                    return Err(Refusal::DoesNotRun);
-                }
                 self.state = TaskState::Ready;
                 Ok(())
             }
-            (TaskState::Holding(_), _) => {
-                if !runs {
-                    return Err(Refusal::DoesNotRun);
-                }
-                Err(Refusal::HoldsResource)
-            }
+            (TaskState::Holding(_), _) => Err(Refusal::HoldsResource),
             (TaskState::Ready, TaskEvent::Finish) => {
-                if !runs {
-                    return Err(Refusal::DoesNotRun);
-                }
                 self.state = TaskState::Idle;
                 Ok(())
             }
-            (TaskState::Ready, TaskEvent::Request(resource, granted, told)) => {
-                if !runs {
-                    return Err(Refusal::DoesNotRun);
-                }
-                if self.serial >= 4294967295 {
-                    return Err(Refusal::CountSpent);
-                }
-                self.state = if granted {
-                    TaskState::Holding(resource.get())
-                } else {
-                    TaskState::Waiting(resource.get())
-                };
+            (
+                TaskState::Ready,
+                TaskEvent::Request {
+                    resource,
+                    granted,
+                    told,
+                },
+            ) => {
+                self.serial = self.serial.checked_add(1).ok_or(Refusal::CountSpent)?;
                 self.resource = resource.get();
-                self.serial += 1;
+                self.state = if granted {
+                    TaskState::Holding(self.resource)
+                } else {
+                    TaskState::Waiting(self.resource)
+                };
                 self.told = told;
                 self.blocked = 0;
                 Ok(())

@@ -16,6 +16,10 @@ use kernel::{Facts, Kernel, start};
 use keys::Deadline;
 use runs::Refusal;
 
+// The kernel of this program: the buffer is served first come, first served behind
+// the gate, and urgency is a deadline.
+type BufferKernel = Kernel<Gate<FirstCome>, Deadline>;
+
 // The tasks, and the resource that they share.
 const CAMERA: u32 = 0;
 
@@ -23,7 +27,8 @@ const ARM: u32 = 1;
 
 const BUFFER: u32 = 0;
 
-// A task as people call it.
+// A task as people call it. The kernel tells tasks by number, also as the next
+// holder, so an enum would need a way back from each number.
 fn name(task: u32) -> &'static str {
     match task {
         CAMERA => "the camera",
@@ -31,7 +36,9 @@ fn name(task: u32) -> &'static str {
     }
 }
 
-// Says what came of a call of the kernel that tells nothing else.
+// Says what came of a call of the kernel that tells nothing else. The runtime, the
+// kernel and the task stay parameters here and below: a struct of them would be
+// borrowed twice where the answer told is that of a call of its own kernel.
 fn tell(rt: HostRuntime, task: u32, act: &str, answer: Result<(), Refusal>) {
     let who = name(task);
     match answer {
@@ -39,31 +46,18 @@ fn tell(rt: HostRuntime, task: u32, act: &str, answer: Result<(), Refusal>) {
             let _ = println!(rt; "{who} {act}");
         }
         Err(why) => {
-            let number = why.number();
-            let _ = println!(rt; "{who} {act}: refused with {number}");
+            let _ = println!(rt; "{who} {act}: refused with {}", why.number());
         }
     }
 }
 
-// A release by the kernel's own call, whoever holds next.
-fn released(answer: Result<Option<u32>, Refusal>) -> Result<(), Refusal> {
-    match answer {
-        Ok(_) => Ok(()),
-        Err(why) => Err(why),
-    }
-}
-
 // A tick in which the task works on the buffer, if it runs.
-fn work(rt: HostRuntime, kernel: &mut Kernel<Gate<FirstCome>, Deadline>, task: u32) {
+fn work(rt: HostRuntime, kernel: &mut BufferKernel, task: u32) {
     tell(rt, task, "works for a tick", kernel.tick());
 }
 
 // Asks for the buffer: a ticket, unless the kernel refuses.
-fn open_buffer(
-    rt: HostRuntime,
-    kernel: &mut Kernel<Gate<FirstCome>, Deadline>,
-    task: u32,
-) -> Option<Ticket> {
+fn open_buffer(rt: HostRuntime, kernel: &mut BufferKernel, task: u32) -> Option<Ticket> {
     let who = name(task);
     match open(kernel, task, BUFFER) {
         Ok(ticket) => {
@@ -71,8 +65,7 @@ fn open_buffer(
             Some(ticket)
         }
         Err(why) => {
-            let number = why.number();
-            let _ = println!(rt; "{who} opens the buffer: refused with {number}");
+            let _ = println!(rt; "{who} opens the buffer: refused with {}", why.number());
             None
         }
     }
@@ -81,7 +74,7 @@ fn open_buffer(
 // Claims the buffer: a hold, or the ticket again.
 fn claim_buffer(
     rt: HostRuntime,
-    kernel: &Kernel<Gate<FirstCome>, Deadline>,
+    kernel: &BufferKernel,
     task: u32,
     ticket: Ticket,
 ) -> Result<Hold, Ticket> {
@@ -92,20 +85,17 @@ fn claim_buffer(
             Ok(hold)
         }
         Err(unclaimed) => {
-            let number = unclaimed.why.number();
-            let _ = println!(rt; "{who} claims the buffer: refused with {number}");
+            let _ = println!(rt;
+                "{who} claims the buffer: refused with {}",
+                unclaimed.why.number()
+            );
             Err(unclaimed.ticket)
         }
     }
 }
 
 // Closes a hold; what the kernel refuses to release is handed back.
-fn close_buffer(
-    rt: HostRuntime,
-    kernel: &mut Kernel<Gate<FirstCome>, Deadline>,
-    task: u32,
-    hold: Hold,
-) -> Option<Hold> {
+fn close_buffer(rt: HostRuntime, kernel: &mut BufferKernel, task: u32, hold: Hold) -> Option<Hold> {
     let who = name(task);
     match close(kernel, hold) {
         Ok(Some(next)) => {
@@ -134,7 +124,7 @@ fn close_buffer(
 // Opens the buffer and claims it at once.
 fn take_buffer(
     rt: HostRuntime,
-    kernel: &mut Kernel<Gate<FirstCome>, Deadline>,
+    kernel: &mut BufferKernel,
     task: u32,
 ) -> Option<Result<Hold, Ticket>> {
     let ticket = open_buffer(rt, kernel, task)?;
@@ -145,15 +135,11 @@ fn take_buffer(
 // laid down.
 fn claim_again(
     rt: HostRuntime,
-    kernel: &Kernel<Gate<FirstCome>, Deadline>,
+    kernel: &BufferKernel,
     task: u32,
     had: Option<Result<Hold, Ticket>>,
 ) -> Option<Hold> {
-    let ticket = match had? {
-        Ok(hold) => return Some(hold),
-        Err(ticket) => ticket,
-    };
-    match claim_buffer(rt, kernel, task, ticket) {
+    match had?.or_else(|ticket| claim_buffer(rt, kernel, task, ticket)) {
         Ok(hold) => Some(hold),
         Err(ticket) => {
             let _ = lay_down(kernel, ticket);
@@ -163,11 +149,7 @@ fn claim_again(
 }
 
 // Claims by an older ticket, if there is one.
-fn try_old(
-    rt: HostRuntime,
-    kernel: &Kernel<Gate<FirstCome>, Deadline>,
-    old: Option<Ticket>,
-) -> Option<Hold> {
+fn try_old(rt: HostRuntime, kernel: &BufferKernel, old: Option<Ticket>) -> Option<Hold> {
     let ticket = old?;
     let _ = println!(rt; "the camera tries its first ticket");
     claim_again(rt, kernel, CAMERA, Some(Err(ticket)))
@@ -176,17 +158,14 @@ fn try_old(
 // Closes the hold, if there is one.
 fn close_held(
     rt: HostRuntime,
-    kernel: &mut Kernel<Gate<FirstCome>, Deadline>,
+    kernel: &mut BufferKernel,
     task: u32,
     held: Option<Hold>,
 ) -> Option<Hold> {
-    match held {
-        Some(hold) => close_buffer(rt, kernel, task, hold),
-        None => None,
-    }
+    close_buffer(rt, kernel, task, held?)
 }
 
-// Whose holds could not be closed.
+// Whose holds could not be closed: two owners, and so two flags.
 #[derive(Debug, Drop)]
 struct Left {
     camera: bool,
@@ -194,7 +173,7 @@ struct Left {
 }
 
 // A kernel on one core, for the camera and the arm, with no job.
-fn idle_kernel() -> Kernel<Gate<FirstCome>, Deadline>
+fn idle_kernel() -> BufferKernel
     ensures quiet { (t : ℕ) → ((state_of result).jobs.state t ≡ Idle) }
     ensures checked { (facts_of result).checked ≡ true }
 {
@@ -207,7 +186,8 @@ fn idle_kernel() -> Kernel<Gate<FirstCome>, Deadline>
 }
 
 // The program ends with a hold that could not be closed: in a kernel with no job
-// it is outdated, so closing it there ends it.
+// it is outdated, so closing it there ends it. The three arms show that no live hold
+// is let go.
 fn lose(hold: Hold) {
     let mut idle = idle_kernel();
     match close(&mut idle, hold) {
@@ -219,13 +199,7 @@ fn lose(hold: Hold) {
 
 // Whether there was a hold, which is lost.
 fn lost(held: Option<Hold>) -> bool {
-    match held {
-        Some(hold) => {
-            lose(hold);
-            true
-        }
-        None => false,
-    }
+    held.map(lose).is_some()
 }
 
 // Whose holds are left, and lost.
@@ -246,7 +220,7 @@ fn at_end(camera: Option<Hold>, arm: Option<Hold>) -> Result<(), Left> {
 
 // The arm, which is more urgent, asks for what the camera holds. It has to wait
 // and keeps its ticket; once the camera has closed, the ticket becomes a hold.
-fn contention(rt: HostRuntime, kernel: &mut Kernel<Gate<FirstCome>, Deadline>) -> Result<(), Left> {
+fn contention(rt: HostRuntime, kernel: &mut BufferKernel) -> Result<(), Left> {
     tell(
         rt,
         CAMERA,
@@ -268,16 +242,13 @@ fn contention(rt: HostRuntime, kernel: &mut Kernel<Gate<FirstCome>, Deadline>) -
 
 // The camera opens twice, so that its first ticket is outdated. Then the arm takes
 // the core: the camera's hold is not closed before the arm has finished.
-fn old_ticket_and_late_close(
-    rt: HostRuntime,
-    kernel: &mut Kernel<Gate<FirstCome>, Deadline>,
-) -> Result<(), Left> {
+fn old_ticket_and_late_close(rt: HostRuntime, kernel: &mut BufferKernel) -> Result<(), Left> {
     let old = open_buffer(rt, kernel, CAMERA);
     tell(
         rt,
         CAMERA,
         "releases by itself",
-        released(kernel.release(CAMERA)),
+        kernel.release(CAMERA).map(|_| ()),
     );
     let new = take_buffer(rt, kernel, CAMERA);
     let camera = claim_again(rt, kernel, CAMERA, new);
@@ -292,10 +263,7 @@ fn old_ticket_and_late_close(
 
 // The camera's job ends before its ticket is claimed: the next job of the task has
 // no use for it.
-fn ticket_of_a_job_that_is_over(
-    rt: HostRuntime,
-    kernel: &mut Kernel<Gate<FirstCome>, Deadline>,
-) -> Result<(), Left> {
+fn ticket_of_a_job_that_is_over(rt: HostRuntime, kernel: &mut BufferKernel) -> Result<(), Left> {
     tell(
         rt,
         CAMERA,
@@ -307,7 +275,7 @@ fn ticket_of_a_job_that_is_over(
         rt,
         CAMERA,
         "releases by itself",
-        released(kernel.release(CAMERA)),
+        kernel.release(CAMERA).map(|_| ()),
     );
     tell(rt, CAMERA, "finishes", kernel.finish(CAMERA));
     tell(rt, CAMERA, "arrives anew", kernel.arrive(CAMERA, 90));

@@ -1,8 +1,6 @@
 -- What the small cases come to
-use Rattle.std.specs.Prelude.{ℕ, true, false, Some, None, Ok, Err, Option, Result}
-use Rattle.runs.specs.declared.refusal.Refusal.{Refusal}
+use Rattle.std.specs.Prelude.{true, false, Some, Ok, Err}
 use Rattle.runs.specs.declared.refusal.Refusal.TheVariants.{DoesNotRun}
-use Rattle.runs.specs.Refusals.{number_of}
 use Rattle.cases.specs.declared.table.LineCase.{LineCase}
 use Rattle.cases.specs.declared.table.GateCase.{GateCase}
 use Rattle.cases.specs.declared.table.CoveredCase.{CoveredCase}
@@ -36,11 +34,6 @@ covered_table = record { covered = true; count = Some 1; in_gate_after = false; 
 -- the greatest due tick, and the codes on either side of the edge between two bands
 abbrev pub key_table : KeyCase
 key_table = record { last_due = Some 8589934590; last_normal = Some 511; first_background = Some 512 }
-
--- the number of a refusal, where there is one
-abbrev pub refusal_number : Result (Option ℕ) Refusal → Option ℕ
-refusal_number (Ok next) = None
-refusal_number (Err why) = Some (number_of why)
 
 -- task 0 is told 0 and holds; once task 1, due sooner, has the only core, task 0 cannot release
 abbrev pub release_table : ReleaseCase

@@ -1,6 +1,6 @@
 ghost use Rattle.std.specs.Prelude.{◌≡◌, ◌<◌, ◌≤◌};
 ghost use Rattle.keys.specs.Bands.{more_urgent};
-ghost use Rattle.cases.specs.Table.{line_table, gate_table, covered_table, key_table, refusal_number, release_table, the_table};
+ghost use Rattle.cases.specs.Table.{line_table, gate_table, covered_table, key_table, release_table, the_table};
 
 use crate::table::{CoveredCase, GateCase, KeyCase, LineCase, ReleaseCase, SmallCases};
 use first_come::FirstCome;
@@ -8,7 +8,6 @@ use gated_line::gated_line;
 use kernel::{Facts, start};
 use keys::{BandLevel, Deadline, Fixed, KeyKind};
 use orders::Order;
-use runs::Refusal;
 
 fn line_case() -> LineCase
     ensures { result ≡ line_table }
@@ -97,16 +96,6 @@ fn key_case() -> KeyCase
     }
 }
 
-// The number of a refused release; none where it was accepted.
-fn number(answer: Result<Option<u32>, Refusal>) -> Option<u32>
-    ensures { result ≡ refusal_number answer }
-{
-    match answer {
-        Ok(_) => None,
-        Err(why) => Some(why.number()),
-    }
-}
-
 // Task 0, due at 90, holds when task 1 arrives, due sooner.
 fn release_behind(due: u32) -> ReleaseCase
     requires sooner { (1 ≤ due) × (due < 90) }
@@ -123,7 +112,7 @@ fn release_behind(due: u32) -> ReleaseCase
     let told = kernel.request(0, 0);
     let second_arrival = kernel.arrive(1, due);
     let release = kernel.release(0);
-    let release_number = number(release);
+    let release_number = release.err().map(|why| why.number());
     ReleaseCase {
         first_arrival,
         told,

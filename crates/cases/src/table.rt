@@ -1,3 +1,5 @@
+// A bool here is the answer of a question that answers yes or no.
+
 use runs::Refusal;
 
 // First-come with tasks 0, 1 and 2 admitted: the count of each.

@@ -1,6 +1,7 @@
-ghost use Rattle.std.specs.Prelude.{◌≡◌, ℕ, ◌-◌, ◌*◌, false, ◌&&◌, leb, if◌then◌else◌, nat_le, refl};
+ghost use Rattle.std.specs.Prelude.{◌≡◌, ℕ, false, refl};
 ghost use Rattle.double_line.specs.Doubled.{double_meaning, DoubleAdmitted, DoublePassed};
 ghost use Rattle.std.proofs.Common.{arith};
+ghost use Rattle.first_come.specs.Lines.{fitting_places};
 ghost use Rattle.first_come.specs.First.{first_meaning, line_of};
 ghost use Rattle.first_come.specs.Lined.{lined_rules};
 ghost use Rattle.first_come.specs.Firsts.{neat_of, first_admits, first_passes};
@@ -15,11 +16,12 @@ impl DoubleLine {
     // numbers it has no place at all.
     pub fn new(width: u32, places: u32) -> DoubleLine
         ensures width { (double_meaning result).width ≡ width }
-        ensures places { (double_meaning result).places ≡ (if leb 1 width && (nat_le width 16 && (nat_le 1 places && nat_le places 64)) then places else 0) }
+        ensures places { (double_meaning result).places ≡ fitting_places width places }
         ensures nobody { (r t : ℕ) → (double_meaning result).queued r t ≡ false }
     {
-        let line = FirstCome::new(width, places);
-        DoubleLine { line }
+        DoubleLine {
+            line: FirstCome::new(width, places),
+        }
     }
 }
 
@@ -66,8 +68,7 @@ impl Order for DoubleLine {
     }
 
     fn reach(&self) -> u32 {
-        let reach = self.line.reach();
-        2 * reach
+        2 * self.line.reach()
     }
 
     fn holder(&self, resource: u32) -> Option<u32> {
@@ -84,10 +85,7 @@ impl Order for DoubleLine {
 
     // Twice the place in line.
     fn count(&self, resource: u32, task: u32) -> Option<u32> {
-        let Some(place) = self.line.count(resource, task) else {
-            return None;
-        };
-        Some(2 * place)
+        self.line.count(resource, task).map(|place| 2 * place)
     }
 
     fn covered(&self, _resource: u32, _task: u32) -> bool {

@@ -30,7 +30,7 @@ module _ {S K D Y : Type 0} (o : Ghosts S) (kind : KeyKind.Ghosts K D Y) (k z : 
   answer : a ≡ record { told = (state_of z).told t; next = None }
   answer = λ i. record { told = sym asked.told i; next = plain i }
 
-  known : (z.limits.checked && ltb t z.limits.tasks) ≡ true
+  known : ((facts_of z).checked && ltb t (facts_of z).tasks) ≡ true
   known = and_from _ _ (ap (λ (f : Facts). f.checked) took.facts ∙ asked.checked) (ap (λ (f : Facts). ltb t f.tasks) took.facts ∙ asked.known)
 
   serial : last_serial (task_answer z t) ≡ suc ((state_of k).serial t)

@@ -1,15 +1,14 @@
 -- What the acts of a driver are to the kernel
-use Rattle.std.specs.Prelude.{◌≡◌, ℕ, suc, Bool, true, cond, not, ◌&&◌, List, [], ◌∷◌, Ok, Err, Option, Result}
+use Rattle.std.specs.Prelude.{◌≡◌, ℕ, suc, Bool, true, cond, not, ◌&&◌, [], ◌∷◌, Ok, Err, Option, Result}
 use Rattle.orders.specs.declared.order.Order.{Ghosts}
 use Rattle.keys.specs.declared.kind.KeyKind
 use Rattle.runs.specs.declared.call.Call.TheVariants.{Request, Release}
 use Rattle.runs.specs.declared.call.Accepted.{Accepted}
 use Rattle.runs.specs.declared.refusal.Refusal.{Refusal}
-use Rattle.runs.specs.Histories.{Event}
-use Rattle.runs.specs.Steps.{State, Fresh, Leads, kernel_of}
+use Rattle.runs.specs.Steps.{State}
 use Rattle.kernel.specs.declared.kernel.Kernel.{Kernel}
 use Rattle.kernel.specs.Views.{facts_of, state_of, noted, counted, handed}
-use Rattle.kernel.specs.Promises.{Took, Holds}
+use Rattle.kernel.specs.Promises.{Took, EachHistory, Holds}
 use Rattle.driver.specs.declared.ticket.Ticket.{Ticket}
 use Rattle.driver.specs.declared.hold.Hold.{Hold}
 use Rattle.driver.specs.declared.refusal.Unclosed.{Unclosed}
@@ -33,8 +32,7 @@ pub record Opened {S K D Y : Type 0} (o : Ghosts S) (kind : KeyKind.Ghosts K D Y
   pub on : (x : Ticket) → a ≡ Ok x → is_on (facts_of z) (state_of z) t x.serial ≡ true
   pub holds : Holds o kind k (noted (Request t r) (as_request (state_of z) t a) ∷ []) z
   -- and whatever history led to k has given the ticket with this event
-  pub gave : (x : Ticket) → a ≡ Ok x → (start : State S) (h : List (Event D)) → Fresh (kernel_of o kind (facts_of k)) start → Leads (kernel_of o kind (facts_of k)) start h (state_of k) →
-      Gave (noted (Request t r) (as_request (state_of z) t a) ∷ h) x.task x.serial x.resource
+  pub gave : (x : Ticket) → a ≡ Ok x → EachHistory o kind k (λ start h. Gave (noted (Request t r) (as_request (state_of z) t a) ∷ h) x.task x.serial x.resource)
 
 -- what the answer of a release says of the next holder
 abbrev pub next_part : Result Accepted Refusal → Result (Option ℕ) Refusal

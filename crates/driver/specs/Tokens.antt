@@ -6,6 +6,8 @@ use Rattle.board.specs.declared.record.TaskRecord.{TaskRecord}
 use Rattle.runs.specs.declared.refusal.Refusal.TheVariants.{Unchecked, Waits}
 use Rattle.runs.specs.Refusals.{number_of}
 use Rattle.runs.specs.Steps.{Facts, State}
+use Rattle.kernel.specs.declared.kernel.Kernel.{Kernel as Core}
+use Rattle.kernel.specs.Views.{facts_of, state_of}
 use Rattle.driver.specs.declared.ticket.Ticket.{Ticket}
 use Rattle.driver.specs.declared.hold.Hold.{Hold}
 use Rattle.driver.specs.declared.refusal.DriverRefusal.{DriverRefusal}
@@ -29,8 +31,8 @@ abbrev pub is_on : {S : Type 0} → Facts → State S → ℕ → ℕ → Bool
 is_on f s t n = nat_lt t f.tasks && (s.serial t == n && (is_waiting (s.jobs.state t) || is_holding (s.jobs.state t)))
 
 -- how the task of a ticket or a hold stands: refused on an unchecked kernel, then where its request is no longer on
-abbrev pub standing_answer : {S : Type 0} → Facts → State S → ℕ → ℕ → Result TaskState DriverRefusal
-standing_answer f s t n = cond (not f.checked) (Err (Kernel Unchecked)) (cond (not (is_on f s t n)) (Err Outdated) (Ok (s.jobs.state t)))
+abbrev pub standing_answer : {S K D Y : Type 0} → Core S K D Y → ℕ → ℕ → Result TaskState DriverRefusal
+standing_answer k t n = cond (not (facts_of k).checked) (Err (Kernel Unchecked)) (cond (not (is_on (facts_of k) (state_of k) t n)) (Err Outdated) (Ok ((state_of k).jobs.state t)))
 
 -- the serial in the record of a task, 0 where there is no such task
 abbrev pub last_serial : Option TaskRecord → ℕ
@@ -50,5 +52,5 @@ abbrev pub claimed : Ticket → Result TaskState DriverRefusal → Result Hold U
 claimed x (Err e) = Err (record { ticket = x; why = e })
 claimed x (Ok p) = cond (is_waiting p) (Err (record { ticket = x; why = Kernel Waits })) (Ok (hold_of x))
 
-abbrev pub claim_answer : {S : Type 0} → Facts → State S → Ticket → Result Hold Unclaimed
-claim_answer f s x = claimed x (standing_answer f s x.task x.serial)
+abbrev pub claim_answer : {S K D Y : Type 0} → Core S K D Y → Ticket → Result Hold Unclaimed
+claim_answer k x = claimed x (standing_answer k x.task x.serial)

@@ -6,7 +6,7 @@ ghost use Rattle.driver.specs.Naming.{Names};
 
 use crate::hold::Hold;
 use crate::names::names_stand;
-use crate::refusal::{DriverRefusal, Unclaimed};
+use crate::refusal::Unclaimed;
 use crate::standing::standing;
 use crate::ticket::Ticket;
 use jobs::TaskState;
@@ -18,13 +18,13 @@ use runs::{Refusal, guarantee_stands};
 // Turns a ticket into a hold once its task holds the resource. A refused ticket
 // is handed back.
 fn turn<O: Order, K: KeyKind>(kernel: &Kernel<O, K>, ticket: Ticket) -> Result<Hold, Unclaimed>
-    ensures { result ≡ claim_answer (facts_of kernel.now) (state_of kernel.now) ticket }
+    ensures { result ≡ claim_answer kernel.now ticket }
 {
     match standing(kernel, ticket.task, ticket.serial) {
         Err(why) => Err(Unclaimed { ticket, why }),
         Ok(TaskState::Waiting(_)) => Err(Unclaimed {
             ticket,
-            why: DriverRefusal::Kernel(Refusal::Waits),
+            why: Refusal::Waits.into(),
         }),
         Ok(_) => Ok(Hold::given(kernel, ticket)),
     }
@@ -33,23 +33,13 @@ fn turn<O: Order, K: KeyKind>(kernel: &Kernel<O, K>, ticket: Ticket) -> Result<H
 // Claims what a ticket was opened for: a hold once the task holds the resource,
 // else the ticket again with the reason. Nothing in the kernel changes.
 pub fn claim<O: Order, K: KeyKind>(kernel: &Kernel<O, K>, ticket: Ticket) -> Result<Hold, Unclaimed>
-    ensures told { result ≡ claim_answer (facts_of kernel.now) (state_of kernel.now) ticket }
+    ensures told { result ≡ claim_answer kernel.now ticket }
     ensures names { Names O.Order K.KeyKind (facts_of kernel.now) (state_of kernel.now) ticket.task ticket.serial ticket.resource }
     ensures holds { Holds O.Order K.KeyKind kernel.now [] kernel.now }
 {
     guarantee_stands::<O, K>();
     names_stand::<O, K>();
     turn(kernel, ticket)
-}
-
-// Whether a ticket's request is on.
-fn stands<O: Order, K: KeyKind>(kernel: &Kernel<O, K>, ticket: &Ticket) -> bool
-    ensures { result ≡ ((facts_of kernel.now).checked && is_on (facts_of kernel.now) (state_of kernel.now) ticket.now.task ticket.now.serial) }
-{
-    match standing(kernel, ticket.task, ticket.serial) {
-        Ok(_) => true,
-        Err(_) => false,
-    }
 }
 
 // Lays a ticket down. Nothing in the kernel changes: a request that is still on,
@@ -59,5 +49,5 @@ pub fn lay_down<O: Order, K: KeyKind>(kernel: &Kernel<O, K>, ticket: Ticket) -> 
     ensures holds { Holds O.Order K.KeyKind kernel.now [] kernel.now }
 {
     guarantee_stands::<O, K>();
-    stands(kernel, &ticket)
+    standing(kernel, ticket.task, ticket.serial).is_ok()
 }

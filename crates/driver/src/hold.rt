@@ -1,5 +1,4 @@
 ghost use Rattle.std.specs.Prelude.{◌≡◌, true, Ok as Gives};
-ghost use Rattle.kernel.specs.Views.{facts_of, state_of};
 ghost use Rattle.driver.specs.Tokens.{hold_of, spent_hold, claim_answer};
 
 use crate::ticket::Ticket;
@@ -8,7 +7,8 @@ use keys::KeyKind;
 use orders::Order;
 
 // A resource that is held by a ticket's task. It is a token of plain numbers that
-// has to be spent by close: it may not be let go before.
+// has to be spent by close: it may not be let go before. `drop` can demand only what
+// a field says, so `spent` is one.
 pub struct Hold {
     task: u32,
     resource: u32,
@@ -33,7 +33,7 @@ impl Hold {
     // The hold that a ticket becomes. No other function makes one, and this one
     // asks for what claim has found: that the task holds the resource.
     pub(crate) fn given<O: Order, K: KeyKind>(_kernel: &Kernel<O, K>, ticket: Ticket) -> Hold
-        requires { claim_answer (facts_of _kernel.now) (state_of _kernel.now) ticket ≡ Gives (hold_of ticket) }
+        requires { claim_answer _kernel.now ticket ≡ Gives (hold_of ticket) }
         ensures { result ≡ hold_of ticket }
     {
         let Ticket {

@@ -6,8 +6,6 @@ use keys::KeyKind;
 use orders::Order;
 
 // A ticket that a kernel gave names what its task comes to hold by it.
-pub fn names_stand<O: Order, K: KeyKind>() -> u8
+pub fn names_stand<O: Order, K: KeyKind>()
     ensures { (f : Facts) (s : State O) (t n r : ℕ) → Names O.Order K.KeyKind f s t n r }
-{
-    0
-}
+{}

@@ -9,14 +9,12 @@ use keys::KeyKind;
 use orders::Order;
 use runs::{Call, Refusal};
 
-// The ticket of a task's latest request, which was for that resource.
+// The ticket of a task's latest request, which was for that resource. A task that there
+// is not has made none, and the first has serial 1.
 fn ticket<O: Order, K: KeyKind>(kernel: &Kernel<O, K>, task: u32, resource: u32) -> Ticket
     ensures { result ≡ record { task = task; resource = resource; serial = last_serial (task_answer kernel.now task) } }
 {
-    let serial = match kernel.task_record(task) {
-        Some(record) => record.serial,
-        None => 0,
-    };
+    let serial = kernel.task_record(task).map_or(0, |record| record.serial);
     Ticket {
         task,
         resource,
@@ -33,8 +31,6 @@ pub fn open<O: Order, K: KeyKind>(
 ) -> Result<Ticket, Refusal>
     ensures { Opened O.Order K.KeyKind kernel.old task resource result kernel.new }
 {
-    match kernel.handle(Call::Request(task, resource)) {
-        Ok(_) => Ok(ticket(kernel, task, resource)),
-        Err(why) => Err(why),
-    }
+    kernel.handle(Call::Request(task, resource))?;
+    Ok(ticket(kernel, task, resource))
 }

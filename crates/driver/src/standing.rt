@@ -1,5 +1,4 @@
 ghost use Rattle.std.specs.Prelude.{◌≡◌};
-ghost use Rattle.kernel.specs.Views.{facts_of, state_of};
 ghost use Rattle.driver.specs.Tokens.{standing_answer, driver_number, unclosed_number};
 
 use crate::refusal::{DriverRefusal, Unclosed};
@@ -10,7 +9,8 @@ use orders::Order;
 use runs::Refusal;
 
 impl DriverRefusal {
-    // The number by which people know the refusal.
+    // The number by which people know the refusal. A conversion would not say which
+    // number it is.
     pub fn number(self) -> u32
         ensures { result ≡ driver_number self }
     {
@@ -22,12 +22,13 @@ impl DriverRefusal {
 }
 
 impl Unclosed {
-    // The number by which people know why a hold was not closed.
+    // The number by which people know why a hold was not closed, by a name for the
+    // same reason.
     pub fn number(&self) -> u32
         ensures { result ≡ unclosed_number self.now }
     {
         match self {
-            Unclosed::Ended => 13,
+            Unclosed::Ended => DriverRefusal::Outdated.number(),
             Unclosed::Kept(_, why) => why.number(),
         }
     }
@@ -40,14 +41,12 @@ pub(crate) fn standing<O: Order, K: KeyKind>(
     task: u32,
     serial: u32,
 ) -> Result<TaskState, DriverRefusal>
-    ensures { result ≡ standing_answer (facts_of kernel.now) (state_of kernel.now) task serial }
+    ensures { result ≡ standing_answer kernel.now task serial }
 {
     if !kernel.is_checked() {
-        return Err(DriverRefusal::Kernel(Refusal::Unchecked));
+        return Err(Refusal::Unchecked.into());
     }
-    let Some(record) = kernel.task_record(task) else {
-        return Err(DriverRefusal::Outdated);
-    };
+    let record = kernel.task_record(task).ok_or(DriverRefusal::Outdated)?;
     if record.serial != serial {
         return Err(DriverRefusal::Outdated);
     }

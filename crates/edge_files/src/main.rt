@@ -19,10 +19,7 @@ const HEADER: &str = "cores=2 tasks=3 resources=2 order=gate key=deadline";
 
 // The number of the last refusal; 0 where nothing was refused.
 fn last_number(faults: &[Fault]) -> u32 {
-    match faults.last() {
-        Some(fault) => fault.why.number(),
-        None => 0,
-    }
+    faults.last().map_or(0, |fault| fault.why.number())
 }
 
 // How the output begins, how many lines it has, and what was refused.
@@ -99,7 +96,7 @@ fn line_files() -> [Case; 6] {
 
 // Tries each case.
 fn try_cases(rt: HostRuntime, cases: &[Case]) -> anyhow::Result<()> {
-    for case in cases.iter() {
+    for case in cases {
         let bytes = built(rt.alloc(), *case)?;
         try_file(rt, case.name, bytes.as_slice())?;
     }

@@ -1,5 +1,5 @@
 -- what a header chooses
-use Rattle.std.proofs.Common.{◌≡◌, ℕ, Bool, true, false, cond, ◌&&◌, ltb, leb, List, [], replicate, IfOk, Ok, Err, Result, sym, refl, ap, ◌∙◌, subst}
+use Rattle.std.proofs.Common.{◌≡◌, ℕ, cond, ◌&&◌, ltb, leb, List, [], replicate, IfOk, Ok, Err, Result, sym, subst, arith}
 use Rattle.first_come.specs.declared.first.FirstCome.{FirstCome}
 use Rattle.first_come.specs.Lines.{fresh_line}
 use Rattle.event_text.specs.declared.heading.OrderWord.{OrderWord}
@@ -16,18 +16,12 @@ pub made_into : {X E : Type 0} (P Q : X → Type 0) (r : Result X E) → ((x : X
 made_into P Q (Ok x) f p = f x p
 made_into P Q (Err e) f p = p
 
--- the words of a header by what they are
-pub by_words : {E : Type 0} (w v : OrderWord) (k l : KeyWord) (m n r : ℕ) (ls : List (List ℕ)) (a : Result Report E) → w ≡ v → k ≡ l → IfOk a (Chosen v l m n r ls) → IfOk a (Chosen w k m n r ls)
-by_words w v k l m n r ls a e f p = subst (λ (x : OrderWord). IfOk a (Chosen x k m n r ls)) (sym e) (subst (λ (y : KeyWord). IfOk a (Chosen v y m n r ls)) (sym f) p)
+pub by_order : {E : Type 0} (w v : OrderWord) (k : KeyWord) (m n r : ℕ) (ls : List (List ℕ)) (a : Result Report E) → w ≡ v → IfOk a (Chosen v k m n r ls) → IfOk a (Chosen w k m n r ls)
+by_order w v k m n r ls a e p = subst (λ (x : OrderWord). IfOk a (Chosen x k m n r ls)) (sym e) p
 
 -- a line as it is made with 64 places
-and_true : (b c : Bool) → (b && (c && true)) ≡ (b && c)
-and_true true true = refl
-and_true true false = refl
-and_true false c = refl
-
 pub new_line : (m : ℕ) (s : FirstCome) → s.width ≡ m → s.places ≡ cond (leb 1 m && (leb m 16 && (leb 1 64 && leb 64 64))) 64 0 → s.lines ≡ replicate 32 fresh_line → NewLine m s
-new_line m s width places same = record { width = width; places = places ∙ ap (λ b. cond {A = ℕ} b 64 0) (and_true (leb 1 m) (leb m 16)); lines = same }
+new_line m s width places same = record { width = width; places = grind (arith, places); lines = same }
 
 -- an empty file has no header
 pub empty_file : {E : Type 0} (bytes : List ℕ) (a : Result Report E) → bytes ≡ [] → IfOk a (Refused (Text NoForm)) → IfOk a (FileRun bytes)

@@ -1,5 +1,6 @@
 -- What a whole file comes to
 use Rattle.std.specs.Prelude.{◌≡◌, ℕ, cond, ◌&&◌, List, [], ◌∷◌, length, replicate, Ok, Err, Result, nat_le, nat_lt}
+use Rattle.orders.specs.declared.order.Order.{Ghosts}
 use Rattle.first_come.specs.declared.first.FirstCome.{FirstCome}
 use Rattle.first_come.specs.Lines.{fresh_line}
 use Rattle.gate.specs.declared.gate.Gate.{Gate as Gated}
@@ -26,12 +27,15 @@ pub record NewLine (m : ℕ) (s : FirstCome) : Type 0 where
   pub places : s.places ≡ cond (nat_le 1 m && nat_le m 16) 64 0
   pub lines : s.lines ≡ replicate 32 fresh_line
 
+-- what a file comes to over an order of service, by the kind of key that its header chooses
+abbrev pub Keyed : {S : Type 0} → Ghosts S → KeyWord → ℕ → ℕ → ℕ → S → List (List ℕ) → Report → Type 0
+Keyed o Deadline m n r s lines rep = KernelRun o deadline_kind deadline_event_of m n r s lines rep
+Keyed o Fixed m n r s lines rep = KernelRun o fixed_kind fixed_event_of m n r s lines rep
+
 -- what a file comes to by what its header chooses: the order of service, as it is made, and the kind of key
 abbrev pub Chosen : OrderWord → KeyWord → ℕ → ℕ → ℕ → List (List ℕ) → Report → Type 0
-Chosen Fifo Deadline m n r lines rep = (s : FirstCome) × NewLine m s × KernelRun line_order deadline_kind deadline_event_of m n r s lines rep
-Chosen Fifo Fixed m n r lines rep = (s : FirstCome) × NewLine m s × KernelRun line_order fixed_kind fixed_event_of m n r s lines rep
-Chosen Gate Deadline m n r lines rep = (s : Gated FirstCome) × Empty m s × KernelRun gated_order deadline_kind deadline_event_of m n r s lines rep
-Chosen Gate Fixed m n r lines rep = (s : Gated FirstCome) × Empty m s × KernelRun gated_order fixed_kind fixed_event_of m n r s lines rep
+Chosen Fifo key m n r lines rep = (s : FirstCome) × NewLine m s × Keyed line_order key m n r s lines rep
+Chosen Gate key m n r lines rep = (s : Gated FirstCome) × Empty m s × Keyed gated_order key m n r s lines rep
 
 -- what a file comes to by how its header is read
 abbrev pub Headed : Result Header TextFault → List (List ℕ) → Report → Type 0

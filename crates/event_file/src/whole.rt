@@ -1,6 +1,6 @@
 ghost use Rattle.std.specs.Prelude.{IfOk};
 ghost use Rattle.fields.specs.Cutting.{lines};
-ghost use Rattle.event_file.specs.Files.{Chosen, FileRun};
+ghost use Rattle.event_file.specs.Files.{Keyed, Chosen, FileRun};
 
 use event_report::{Reason, Report, refuse};
 use event_run::run_events;
@@ -9,37 +9,38 @@ use first_come::FirstCome;
 use gated_line::gated_line;
 use kernel::Facts;
 use keys::{Deadline, Fixed};
+use orders::Order;
 use std::alloc::{AllocError, Global};
 
-// Runs the lines after the header by the order and the kind of key that it names:
-// first-come with 64 places, or the gate over first-come.
-fn run_header(heap: Global, header: Header, rest: &[u8]) -> Result<Report, AllocError>
-    ensures { IfOk result (Chosen header.order header.key header.cores header.tasks header.resources (lines rest.now)) }
+// Runs the lines after the header over an order of service, by the kind of key that
+// the header names.
+fn run_over<O: Order + Drop>(
+    heap: Global,
+    header: Header,
+    order: O,
+    rest: &[u8],
+) -> Result<Report, AllocError>
+    ensures { IfOk result (Keyed O.Order header.key header.cores header.tasks header.resources order (lines rest.now)) }
 {
     let facts = Facts {
         cores: header.cores,
         tasks: header.tasks,
         resources: header.resources,
     };
-    match (header.order, header.key) {
-        (OrderWord::Fifo, KeyWord::Deadline) => {
-            run_events(
-                heap,
-                facts,
-                FirstCome::new(header.cores, 64),
-                Deadline,
-                rest,
-            )
-        }
-        (OrderWord::Fifo, KeyWord::Fixed) => {
-            run_events(heap, facts, FirstCome::new(header.cores, 64), Fixed, rest)
-        }
-        (OrderWord::Gate, KeyWord::Deadline) => {
-            run_events(heap, facts, gated_line(header.cores), Deadline, rest)
-        }
-        (OrderWord::Gate, KeyWord::Fixed) => {
-            run_events(heap, facts, gated_line(header.cores), Fixed, rest)
-        }
+    match header.key {
+        KeyWord::Deadline => run_events(heap, facts, order, Deadline, rest),
+        KeyWord::Fixed => run_events(heap, facts, order, Fixed, rest),
+    }
+}
+
+// Runs the lines after the header by what it names: first-come with 64 places, or
+// the gate over first-come.
+fn run_header(heap: Global, header: Header, rest: &[u8]) -> Result<Report, AllocError>
+    ensures { IfOk result (Chosen header.order header.key header.cores header.tasks header.resources (lines rest.now)) }
+{
+    match header.order {
+        OrderWord::Fifo => run_over(heap, header, FirstCome::new(header.cores, 64), rest),
+        OrderWord::Gate => run_over(heap, header, gated_line(header.cores), rest),
     }
 }
 
@@ -51,10 +52,11 @@ pub fn run_file(heap: Global, bytes: &[u8]) -> Result<Report, AllocError>
         return refuse(heap, Reason::LongFile);
     }
     let Some((line, rest)) = cut_line(bytes) else {
-        return refuse(heap, Reason::Text(TextFault::NoForm));
+        return refuse(heap, TextFault::NoForm.into());
     };
+    // Both arms go on with work of their own: two closures would be no plainer.
     match read_header(line) {
         Ok(header) => run_header(heap, header, rest),
-        Err(fault) => refuse(heap, Reason::Text(fault)),
+        Err(fault) => refuse(heap, fault.into()),
     }
 }

@@ -13,6 +13,7 @@ impl EventKind for Deadline {
     }
 }
 
+// The two kinds differ in their reader alone, and that is what an impl is for.
 impl EventKind for Fixed {
     ghost read = { fixed_event_of };
 

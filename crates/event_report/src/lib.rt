@@ -7,6 +7,7 @@ mod reasons;
 mod refusing;
 mod report;
 mod rows;
+mod words;
 
 pub use refusing::refuse;
 pub use report::{Fault, Layer, Reason, Report, Row};

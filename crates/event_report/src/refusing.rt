@@ -10,7 +10,7 @@ pub fn refuse(heap: Global, why: Reason) -> Result<Report, AllocError>
     ensures { IfOk result (λ rep. Refused why rep) }
 {
     let mut output = String::new(heap);
-    add_start(&mut output, heap, why.number())?;
+    add_start(&mut output, why.number())?;
     let mut faults = Vec::new(heap);
     faults.push(Fault { line: 1, why })?;
     Ok(Report { output, faults })

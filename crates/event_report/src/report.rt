@@ -2,7 +2,7 @@ use event_text::TextFault;
 use runs::{Refusal, Unfit};
 
 // Why a file, its header or one of its lines is refused.
-#[derive(Clone, Copy)]
+#[derive(Clone, Copy, Debug, PartialEq, Eq)]
 pub enum Reason {
     // The file has more than 65,536 bytes.
     LongFile,
@@ -12,7 +12,7 @@ pub enum Reason {
 }
 
 // Which part refused.
-#[derive(Clone, Copy)]
+#[derive(Clone, Copy, Debug, PartialEq, Eq)]
 pub enum Layer {
     Text,
     Check,
@@ -21,7 +21,7 @@ pub enum Layer {
 }
 
 // What was wrong with a line of the file. The header is line 1.
-#[derive(Clone, Copy)]
+#[derive(Clone, Copy, Debug, PartialEq, Eq)]
 pub struct Fault {
     pub line: u64,
     pub why: Reason,
@@ -34,10 +34,9 @@ pub struct Report {
     pub faults: Vec<Fault>,
 }
 
-// What is said of one line after the header.
-#[derive(Clone, Copy)]
+// What is said of one line after the header: the count that is told, or why the
+// line is refused.
+#[derive(Clone, Copy, Debug, PartialEq, Eq)]
 pub struct Row {
-    pub answer: u32,
-    pub told: u32,
-    pub fault: Option<Reason>,
+    pub said: Result<u32, Reason>,
 }

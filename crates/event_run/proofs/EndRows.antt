@@ -1,17 +1,51 @@
 -- rows at the end, one by one
-use Rattle.std.proofs.Common.{◌≡◌, ℕ, ◌+◌, Bool, cond, List, [], ◌++◌, Some, None, Option, sym, refl, ap, ◌∙◌, append_assoc, append-nil, add-one}
+use Rattle.std.specs.Option.{MatchOption}
+use Rattle.std.proofs.lemmas.Bool.{cases_lt, cond-true, lt-ltb}
+use Rattle.std.proofs.Common.{◌≡◌, ℕ, zero, suc, ◌+◌, ◌<◌, ◌≤◌, Bool, true, false, ◌&&◌, ltb, ⊎_elim, arith, List, [], ◌++◌, Some, None, Option, sym, refl, ap, ◌∙◌, append_assoc, append-nil, add-one}
 use Rattle.jobs.specs.declared.state.TaskState.{TaskState}
 use Rattle.jobs.specs.Jobs.{holds_it}
+use Rattle.runs.specs.Steps.{Facts}
+use Rattle.board.specs.Calls.{row, hold}
+use Rattle.board.specs.declared.record.TaskRecord.{TaskRecord}
+use Rattle.board.specs.declared.record.ResourceRecord.{ResourceRecord}
+use Rattle.kernel.specs.declared.kernel.Kernel.{Kernel}
+use Rattle.kernel.specs.Views.{facts_of, state_of, made_of, task_answer, resource_answer}
 use Rattle.transcript.specs.Rows.{task_row, resource_row}
-use Rattle.event_run.specs.Outputs.{or_else, first, task_rows, resource_rows}
+use Rattle.event_run.specs.Outputs.{first, holding, task_rows, resource_rows}
 
-pub first_none : (p : ℕ → Bool) → first p 0 ≡ None
+-- none of the first n passes, or i is the first
+none_first : (p : ℕ → Bool) (n : ℕ) → ((k : ℕ) → k < n → p k ≡ false) → first p n ≡ None
 unfolding first
-first_none p = refl
+none_first p zero h = refl
+none_first p (suc n) h = rw (none_first p n (λ k l. h k (omega arith)), h n (omega arith))
 
-first_more : (p : ℕ → Bool) (n : ℕ) → first p (n + 1) ≡ or_else (first p n) (cond (p n) (Some n) None)
+some_first : (p : ℕ → Bool) (n i : ℕ) → i < n → p i ≡ true → ((k : ℕ) → k < i → p k ≡ false) → first p n ≡ Some i
 unfolding first
-first_more p n = rw add-one
+some_first p zero i l e h = absurd (omega arith)
+some_first p (suc n) i l e h =
+    ⊎_elim
+    (λ before. rw (some_first p n i before e h))
+    (λ after.
+    let last : i ≡ n = omega arith in
+    rw (none_first p n (λ k l. h k (omega arith)), ap p (sym last) ∙ e, last))
+    (cases_lt i n)
+
+pub first_is : (p : ℕ → Bool) (n : ℕ) (r : Option ℕ) → MatchOption r ((k : ℕ) → 0 ≤ k → k < n → p k ≡ false) (λ i. (0 ≤ i) × (i < n) × (p i ≡ true) × ((k : ℕ) → 0 ≤ k → k < i → p k ≡ false)) → r ≡ first p n
+first_is p n None h = sym (none_first p n (λ k l. h k (omega arith) l))
+first_is p n (Some i) h = sym (some_first p n i h.1 h.2 (λ k l. h.3 k (omega arith) l))
+
+-- tests that agree below n have the same first
+first_same : (p q : ℕ → Bool) (n : ℕ) → ((k : ℕ) → k < n → p k ≡ q k) → first p n ≡ first q n
+unfolding first
+first_same p q zero h = refl
+first_same p q (suc n) h = rw (first_same p q n (λ k l. h k (omega arith)), h n (omega arith))
+
+-- the holder by the records is the holder by the states
+pub holder_is : {S K D Y : Type 0} (k : Kernel S K D Y) (m n l r : ℕ) → facts_of k ≡ made_of m n l → first (λ t. holding r (task_answer k t)) n ≡ first (λ t. holds_it r ((state_of k).jobs.state t)) n
+holder_is k m n l r made =
+    first_same (λ t. holding r (task_answer k t)) (λ t. holds_it r ((state_of k).jobs.state t)) n (λ t below.
+    let there : ((facts_of k).checked && ltb t (facts_of k).tasks) ≡ true = ap (λ (f : Facts). f.checked && ltb t f.tasks) made ∙ lt-ltb t n below in
+    ap (holding r) (cond-true ((facts_of k).checked && ltb t (facts_of k).tasks) (Some (row k.board t)) None there))
 
 -- a text that grows by rows
 grown : (start text text' rows row : List ℕ) → text ≡ start ++ rows → text' ≡ text ++ row → text' ≡ start ++ (rows ++ row)
@@ -53,6 +87,15 @@ module _ (state : ℕ → TaskState) (f : ℕ → ℕ) (start : List ℕ) where
         grown start text text' (resource_rows state f n r) (resource_row r (first (λ t. holds_it r (state t)) n) (f r)) is (adds ∙ ap (λ (x : Option ℕ). text ++ resource_row r x b) e ∙ ap (λ x. text ++ resource_row r (first (λ t. holds_it r (state t)) n) x) q)
         ∙ ap (λ x. start ++ x) (sym (resource_rows_1 r))
 
--- the search for the first that passes, one more
-pub found_more : (p : ℕ → Bool) (n : ℕ) (b : Bool) (before after : Option ℕ) → b ≡ p n → before ≡ first p n → after ≡ or_else before (cond b (Some n) None) → after ≡ first p (n + 1)
-found_more p n b before after e is new = new ∙ ap (λ (x : Option ℕ). or_else x (cond b (Some n) None)) is ∙ ap (λ x. or_else (first p n) (cond x (Some n) None)) e ∙ sym (first_more p n)
+-- a record that the kernel answers is the one on its board
+pub task_kept : {S K D Y : Type 0} (k : Kernel S K D Y) (m n l t : ℕ) (kept : TaskRecord) → facts_of k ≡ made_of m n l → t < n → task_answer k t ≡ Some kept → kept ≡ row k.board t
+task_kept k m n l t kept made below e =
+    let there : ((facts_of k).checked && ltb t (facts_of k).tasks) ≡ true = ap (λ (f : Facts). f.checked && ltb t f.tasks) made ∙ lt-ltb t n below in
+    let is = cond-true ((facts_of k).checked && ltb t (facts_of k).tasks) (Some (row k.board t)) None there in
+    cc
+
+pub hold_kept : {S K D Y : Type 0} (k : Kernel S K D Y) (m n l r : ℕ) (kept : ResourceRecord) → facts_of k ≡ made_of m n l → r < l → resource_answer k r ≡ Some kept → kept ≡ hold k.board r
+hold_kept k m n l r kept made below e =
+    let there : ((facts_of k).checked && ltb r (facts_of k).resources) ≡ true = ap (λ (f : Facts). f.checked && ltb r f.resources) made ∙ lt-ltb r l below in
+    let is = cond-true ((facts_of k).checked && ltb r (facts_of k).resources) (Some (hold k.board r)) None there in
+    cc

@@ -1,5 +1,5 @@
 -- The lines after the header, as they were taken
-use Rattle.std.specs.Prelude.{ℕ, suc, List, [], ◌∷◌, ◌++◌, length, Some, None, Ok, Err, Option, Result}
+use Rattle.std.specs.Prelude.{◌≡◌, ℕ, suc, List, [], ◌∷◌, ◌++◌, length, Some, None, Ok, Err, Option, Result}
 use Rattle.runs.specs.declared.call.Call.{Call}
 use Rattle.runs.specs.Refusals.{number_of}
 use Rattle.runs.specs.Histories.{Event}
@@ -10,7 +10,7 @@ use Rattle.event_report.specs.declared.report.Reason.{Reason}
 use Rattle.event_report.specs.declared.report.Reason.TheVariants.{Text, Call as Called}
 use Rattle.event_report.specs.declared.report.Fault.{Fault}
 use Rattle.event_report.specs.declared.report.Row.{Row}
-use Rattle.event_report.specs.Reasons.{fault_at}
+use Rattle.event_report.specs.Reasons.{fault_at, row_answer, row_told, row_fault}
 
 -- a line after the header: not read, for its text, or handed to the kernel as a call, which makes an event with its answer
 pub data Entry (D : Type 0) : Type 0 where
@@ -64,8 +64,8 @@ reason_of (handled (Event.finished t)) = None
 reason_of (handled Event.ticked) = None
 
 -- what is said of a line
-abbrev pub row_for : {D : Type 0} → Entry D → Row
-row_for e = record { answer = answer_number e; told = told_at e; fault = reason_of e }
+abbrev pub IsRowFor : {D : Type 0} → Entry D → Row → Type 0
+IsRowFor e row = (row_answer row ≡ answer_number e) × (row_told row ≡ told_at e) × (row_fault row ≡ reason_of e)
 
 -- the faults of the lines, in order; the first line after the header is line 2
 abbrev pub faults_of : {D : Type 0} → List (Entry D) → List Fault

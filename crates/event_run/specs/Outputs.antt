@@ -1,15 +1,12 @@
 -- What is written of a run, by its history alone
-use Rattle.std.specs.Prelude.{ℕ, zero, suc, ◌+◌, ◌^◌, Bool, cond, List, [], ◌∷◌, ◌++◌, length, Some, None, Option}
+use Rattle.std.specs.Prelude.{ℕ, zero, suc, Bool, false, cond, List, [], ◌∷◌, ◌++◌, length, Some, None, Option}
 use Rattle.jobs.specs.declared.state.TaskState.{TaskState}
 use Rattle.jobs.specs.Jobs.{holds_it, running}
+pub use Rattle.jobs.specs.Powers.{powers}
+use Rattle.board.specs.declared.record.TaskRecord.{TaskRecord}
 use Rattle.runs.specs.Histories.{jobs_after, blocked_ticks, longest as longest_in}
 use Rattle.transcript.specs.Rows.{start_row, event_row, task_row, resource_row}
 use Rattle.event_run.specs.Entries.{Entry, history, answer_number, told_at}
-
--- the sum of 2^t over the t below n that pass
-unfoldable pub powers : (ℕ → Bool) → ℕ → ℕ
-powers p zero = 0
-powers p (suc n) = powers p n + cond (p n) (2 ^ n) 0
 
 -- the rows of the entries (the newest first), in order: who runs is told as it is after each
 unfoldable pub event_rows : {D : Type 0} → (D → ℕ → ℕ) → ℕ → List (Entry D) → List ℕ
@@ -30,6 +27,11 @@ or_else (Some t) b = Some t
 unfoldable pub first : (ℕ → Bool) → ℕ → Option ℕ
 first p zero = None
 first p (suc n) = or_else (first p n) (cond (p n) (Some n) None)
+
+-- the record of a task says that it holds the resource r
+abbrev pub holding : ℕ → Option TaskRecord → Bool
+holding r None = false
+holding r (Some kept) = holds_it r kept.state
 
 -- the rows of the first r resources, among n tasks
 unfoldable pub resource_rows : (ℕ → TaskState) → (ℕ → ℕ) → ℕ → ℕ → List ℕ

@@ -12,14 +12,14 @@ use Rattle.event_text.specs.declared.fault.TextFault.{TextFault}
 use Rattle.event_report.specs.declared.report.Fault.{Fault}
 use Rattle.event_report.specs.declared.report.Row.{Row}
 use Rattle.event_report.specs.Reasons.{fault_at}
-use Rattle.event_run.specs.Entries.{Entry, as_read, onto, history, answer_number, told_at, reason_of, row_for, faults_of}
+use Rattle.event_run.specs.Entries.{Entry, as_read, onto, history, answer_number, told_at, reason_of, IsRowFor, faults_of}
 use Rattle.event_run.specs.Outputs.{powers, event_rows}
 
 -- a line that says this was taken: it made an entry, with this row, that led the kernel k to z
 pub record Taken {S K D Y : Type 0} (o : Ghosts S) (kind : KeyKind.Ghosts K D Y) (k : Kernel S K D Y) (said : Result (Call D) TextFault) (row : Row) (z : Kernel S K D Y) : Type 0 where
   pub entry : Entry D
   pub says : as_read entry ≡ said
-  pub rows : row ≡ row_for entry
+  pub rows : IsRowFor entry row
   pub facts : facts_of z ≡ facts_of k
   pub steps : Leads (kernel_of o kind (facts_of k)) (state_of k) (history (entry ∷ [])) (state_of z)
 

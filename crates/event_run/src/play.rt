@@ -1,36 +1,23 @@
-ghost use Rattle.std.specs.Prelude.{◌≡◌, ◌-◌, ◌^◌, ◌<◌, true, ◌++◌, is_ok, string_bytes};
+ghost use Rattle.std.specs.Prelude.{◌≡◌, ◌-◌, ◌^◌, ◌<◌, true, is_ok, string_bytes};
 ghost use Rattle.runs.specs.Steps.{Fresh, kernel_of};
 ghost use Rattle.kernel.specs.Views.{facts_of, state_of};
 ghost use Rattle.fields.specs.Cutting.{lines};
-ghost use Rattle.event_report.specs.Reasons.{fault_at};
 ghost use Rattle.event_run.specs.Taking.{Lined, LinesRun};
 
 use crate::running::running_sum;
 use crate::take::take_line;
 use event_kinds::EventKind;
-use event_report::{Fault, Reason, Report};
+use event_report::{Fault, Report};
 use event_text::cut_line;
 use kernel::Kernel;
 use orders::Order;
 use runs::guarantee_stands;
-use std::alloc::{AllocError, Global};
+use std::alloc::AllocError;
 use transcript::add_event;
-
-// Notes what was wrong with a line, if anything.
-fn note(faults: &mut Vec<Fault>, line: u64, why: Option<Reason>) -> Result<(), AllocError>
-    ensures { is_ok result ≡ true → faults.new.items ≡ faults.old.items ++ fault_at line why }
-{
-    let Some(why) = why else {
-        return Ok(());
-    };
-    faults.push(Fault { line, why })?;
-    Ok(())
-}
 
 // Runs the n-th line after the header: its row goes to the output, and its fault,
 // if there is one, to the faults.
 fn run_line<O: Order, K: EventKind>(
-    heap: Global,
     kernel: &mut Kernel<O, K>,
     n: u64,
     line: &[u8],
@@ -41,14 +28,17 @@ fn run_line<O: Order, K: EventKind>(
 {
     let row = take_line(kernel, line);
     let running = running_sum(kernel);
-    add_event(&mut report.output, heap, n, row.answer, running, row.told)?;
-    note(&mut report.faults, n + 1, row.fault)
+    add_event(&mut report.output, n, row.answer(), running, row.told())?;
+    if let Some(why) = row.fault() {
+        report.faults.push(Fault { line: n + 1, why })?;
+    }
+    Ok(())
 }
 
 // Runs all lines that are left of a file, one by one. A line that is refused does
-// not stop the run.
+// not stop the run. The parts of `split_inclusive` keep the byte that ends them, so
+// `cut_line` is plainer.
 pub(crate) fn run_lines<O: Order, K: EventKind>(
-    heap: Global,
     kernel: &mut Kernel<O, K>,
     bytes: &[u8],
     report: &mut Report,
@@ -61,7 +51,7 @@ pub(crate) fn run_lines<O: Order, K: EventKind>(
     let mut n = 0u64;
     while let Some((line, next)) = cut_line(rest) {
         n += 1;
-        run_line(heap, kernel, n, line, report)?;
+        run_line(kernel, n, line, report)?;
         rest = next;
     }
     Ok(())

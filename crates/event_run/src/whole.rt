@@ -7,7 +7,7 @@ ghost use Rattle.event_run.specs.Files.{FileRan, KernelRun};
 use crate::ends::{add_resources, add_tasks};
 use crate::play::run_lines;
 use event_kinds::EventKind;
-use event_report::{Reason, Report, refuse};
+use event_report::{Report, refuse};
 use kernel::{Facts, check, start};
 use orders::Order;
 use runs::guarantee_stands;
@@ -31,16 +31,10 @@ fn play<O: Order + Drop, K: EventKind + Drop>(
         output: String::new(heap),
         faults: Vec::new(heap),
     };
-    add_start(&mut report.output, heap, 0)?;
-    run_lines(heap, &mut kernel, rest, &mut report)?;
-    add_tasks(heap, &kernel, facts.tasks, &mut report.output)?;
-    add_resources(
-        heap,
-        &kernel,
-        facts.tasks,
-        facts.resources,
-        &mut report.output,
-    )?;
+    add_start(&mut report.output, 0)?;
+    run_lines(&mut kernel, rest, &mut report)?;
+    add_tasks(&kernel, facts, &mut report.output)?;
+    add_resources(&kernel, facts, &mut report.output)?;
     Ok(report)
 }
 
@@ -55,8 +49,9 @@ pub fn run_events<O: Order + Drop, K: EventKind + Drop>(
 ) -> Result<Report, AllocError>
     ensures { IfOk result (KernelRun O.Order K.KeyKind K.EventKind.read facts.cores facts.tasks facts.resources order (lines rest.now)) }
 {
+    // Both arms go on with work of their own: two closures would be no plainer.
     match check(facts, &order) {
         Ok(()) => play(heap, facts, order, kind, rest),
-        Err(why) => refuse(heap, Reason::Check(why)),
+        Err(why) => refuse(heap, why.into()),
     }
 }

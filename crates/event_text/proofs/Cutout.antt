@@ -1,5 +1,5 @@
 -- What is known of a field that was cut out of a line
-use Rattle.std.proofs.Common.{◌≡◌, ℕ, ◌+◌, ◌-◌, ◌<◌, ◌≤◌, true, false, cond, List, length, take, drop, Some, None, Option, sym, refl, ap, ◌∙◌, ⊎_elim, arith, Bor}
+use Rattle.std.proofs.Common.{◌≡◌, ℕ, ◌+◌, ◌-◌, ◌<◌, ◌≤◌, Bool, true, false, cond, List, length, take, drop, Some, None, Option, sym, refl, ap, ◌∙◌, ⊎_elim, arith}
 use Rattle.std.specs.Str.{bytes_eq}
 use Rattle.std.proofs.lemmas.List.{length-drop, length-take-le}
 use Rattle.std.proofs.lemmas.Slice.Eq.{bytes_eq-Decides}
@@ -12,15 +12,17 @@ use Rattle.fields.specs.Cutting.{before, first_part}
 use Rattle.field_names.specs.Names.{name_text, after}
 use Rattle.fields.specs.Words.{word_text}
 use Rattle.fields.specs.Numbers.{is_number, number_of, digits_only}
+use Rattle.fields.specs.declared.field.Cut.{Cut}
 use Rattle.fields.specs.declared.field.Field.{Field}
 use Rattle.fields.specs.Tokens.{Shown, shown, cut_field, field_at}
 use Rattle.field_names.proofs.Afters.{after_whole}
 use Rattle.fields.proofs.Counts.{before_within}
+use Rattle.event_text.specs.declared.form.Found.{Found}
 use Rattle.event_text.specs.declared.form.Wanted.TheVariants.{Number, Word}
 use Rattle.event_text.specs.Grammar.{passes, number_in}
-use Rattle.event_text.specs.Places.{next_place, told_of, found_at}
+use Rattle.event_text.specs.Places.{next_place, found_at}
 
-pub record Cut (l : List ℕ) (i : ℕ) (n : Name) (s : Shown) : Type 0 where
+pub record CutFrom (l : List ℕ) (i : ℕ) (n : Name) (s : Shown) : Type 0 where
   pub place : s.at ≡ i
   pub follows : after (name_text n) (first_part (drop i l)) ≡ Some s.value
   pub digits : s.number ≡ is_number s.value
@@ -45,7 +47,7 @@ name_some Resource = omega arith
 part_within : (l : List ℕ) (i : ℕ) → length (first_part (drop i l)) ≤ length l - i
 part_within l i = omega (arith, length-take-le (before 32 (drop i l)) (drop i l) (before_within 32 (drop i l)), before_within 32 (drop i l), length-drop i l)
 
-cut_some : (l : List ℕ) (i : ℕ) (n : Name) (s : Shown) (o : Option (List ℕ)) → after (name_text n) (first_part (drop i l)) ≡ o → Some s ≡ cut_field (first_part (drop i l)) i (length (name_text n)) o → Cut l i n s
+cut_some : (l : List ℕ) (i : ℕ) (n : Name) (s : Shown) (o : Option (List ℕ)) → after (name_text n) (first_part (drop i l)) ≡ o → Some s ≡ cut_field (first_part (drop i l)) i (length (name_text n)) o → CutFrom l i n s
 cut_some l i n s None e h = let z : ◌≡◌ {A = ℕ} 0 1 = cc in absurd (omega arith)
 cut_some l i n s (Some v) e h =
     let whole = after_whole (name_text n) (first_part (drop i l)) v e in
@@ -53,7 +55,7 @@ cut_some l i n s (Some v) e h =
     let is : s ≡ record { name = take (length (name_text n)) (first_part (drop i l)); value = v; at = i; number = is_number v } = cc in
     rw is (record { place = refl; follows = e; digits = refl; long = omega arith; inside = omega (arith, name_some n, part_within l i) })
 
-pub cut_out : (l : List ℕ) (i : ℕ) (n : Name) (s : Shown) → Some s ≡ field_at l i n → Cut l i n s
+pub cut_out : (l : List ℕ) (i : ℕ) (n : Name) (s : Shown) → Some s ≡ field_at l i n → CutFrom l i n s
 cut_out l i n s h = cut_some l i n s (after (name_text n) (first_part (drop i l))) refl h
 
 -- no word is a number
@@ -76,20 +78,23 @@ no_word v w e =
     (λ other. other)
     (cases_Bool (bytes_eq v (word_text w)))
 
+abbrev pub found : Option ℕ → Option ℕ → Found
+found n k = record { number = n; next = k }
+
 module _ (l : List ℕ) (i : ℕ) (n : Name) (s : Shown) (h : Some s ≡ field_at l i n) where
   pub field_inside : s.at + length s.name + length s.value ≤ length l
   field_inside = let c = cut_out l i n s h in omega arith
 
-  pub number_found : s.number ≡ true → (r : Option ℕ) → r ≡ number_of s.value → (k : Option ℕ) → k ≡ next_place l (s.at + length s.name + length s.value) → Some (told_of r k) ≡ found_at (Number n) l i
+  pub number_found : s.number ≡ true → (r : Option ℕ) → r ≡ number_of s.value → (k : Option ℕ) → k ≡ next_place l (s.at + length s.name + length s.value) → Some (found r k) ≡ found_at (Number n) l i
   number_found is r e k f =
       let c = cut_out l i n s h in
       let to : s.at + length s.name + length s.value ≡ i + length (first_part (drop i l)) = omega arith in
       let told : is_number s.value ≡ true = sym c.digits ∙ is in
-      (λ j. Some (told_of (e j) ((f ∙ ap (next_place l) to) j)))
-      ∙ sym (cond-true (is_number s.value) (Some (told_of (number_of s.value) (next_place l (i + length (first_part (drop i l)))))) None told)
-      ∙ ap (λ (o : Option (List ℕ)). cond (passes is_number o) (Some (told_of (number_in o) (next_place l (i + length (first_part (drop i l)))))) None) (sym c.follows)
+      (λ j. Some (found (e j) ((f ∙ ap (next_place l) to) j)))
+      ∙ sym (cond-true (is_number s.value) (Some (found (number_of s.value) (next_place l (i + length (first_part (drop i l)))))) None told)
+      ∙ ap (λ (o : Option (List ℕ)). cond (passes is_number o) (Some (found (number_in o) (next_place l (i + length (first_part (drop i l)))))) None) (sym c.follows)
 
-  pub word_found : (w : Written) → bytes_eq s.value (word_text w) ≡ true → (k : Option ℕ) → k ≡ next_place l (s.at + length s.name + length s.value) → Some (told_of (Some 0) k) ≡ found_at (Word n w) l i
+  pub word_found : (w : Written) → bytes_eq s.value (word_text w) ≡ true → (k : Option ℕ) → k ≡ next_place l (s.at + length s.name + length s.value) → Some (found (Some 0) k) ≡ found_at (Word n w) l i
   word_found w is k f =
       let c = cut_out l i n s h in
       let to : s.at + length s.name + length s.value ≡ i + length (first_part (drop i l)) = omega arith in
@@ -102,8 +107,11 @@ module _ (l : List ℕ) (i : ℕ) (n : Name) (s : Shown) (h : Some s ≡ field_a
   number_no_word w is = other_word w (no_word s.value w (sym (cut_out l i n s h).digits ∙ is))
 
 -- the same facts, as a token has them
-pub number_token : (l : List ℕ) (i : ℕ) (n : Name) (f : Field) (t v : Bor (List ℕ)) (k : ℕ) → shown (Some f) ≡ field_at l i n → f ≡ Field.Number t v k → Some (record { name = t.now; value = v.now; at = k; number = true }) ≡ field_at l i n
-number_token l i n f t v k h is = ap (λ (g : Field). shown (Some g)) (sym is) ∙ h
+abbrev pub shows : Cut → Bool → Shown
+shows cut number = record { name = cut.name.now; value = cut.value.now; at = cut.at; number = number }
 
-pub word_token : (l : List ℕ) (i : ℕ) (n : Name) (f : Field) (t v : Bor (List ℕ)) (k : ℕ) → shown (Some f) ≡ field_at l i n → f ≡ Field.Word t v k → Some (record { name = t.now; value = v.now; at = k; number = false }) ≡ field_at l i n
-word_token l i n f t v k h is = ap (λ (g : Field). shown (Some g)) (sym is) ∙ h
+pub number_token : (l : List ℕ) (i : ℕ) (n : Name) (f : Field) (cut : Cut) → shown (Some f) ≡ field_at l i n → f ≡ Field.Number cut → Some (shows cut true) ≡ field_at l i n
+number_token l i n f cut h is = ap (λ (g : Field). shown (Some g)) (sym is) ∙ h
+
+pub word_token : (l : List ℕ) (i : ℕ) (n : Name) (f : Field) (cut : Cut) → shown (Some f) ≡ field_at l i n → f ≡ Field.Word cut → Some (shows cut false) ≡ field_at l i n
+word_token l i n f cut h is = ap (λ (g : Field). shown (Some g)) (sym is) ∙ h

@@ -1,3 +1,4 @@
 pub mod Lined
 pub mod Cutout
 pub mod Sofar
+pub mod There

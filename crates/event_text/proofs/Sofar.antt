@@ -1,15 +1,16 @@
 -- A line that is read field by field
-use Rattle.std.proofs.Common.{◌≡◌, ℕ, ◌+◌, ◌<◌, ◌≤◌, Bool, true, false, cond, ◌&&◌, ltb, List, [], ◌∷◌, ◌++◌, length, get_or, take, drop, set, is_some, Some, None, Ok, Err, Option, sym, refl, ap, ◌∙◌, subst, ⊎_elim, append_assoc, append-nil, arith}
+use Rattle.std.proofs.Common.{◌≡◌, ℕ, ◌+◌, ◌<◌, ◌≤◌, Bool, true, false, cond, ◌&&◌, ltb, List, [], ◌∷◌, ◌++◌, length, get_or, take, drop, set, is_some, Some, None, Err, Option, sym, refl, ap, ◌∙◌, subst, ⊎_elim, arith}
 use Rattle.std.proofs.lemmas.List.{length-drop, length-set, length-take-le, drop-drop, drop_more, drop_all, take_all, take_more_set}
 use Rattle.std.proofs.lemmas.Bool.{true≢false, false≢true, cases_lt, cond-true, cond-false}
 use Rattle.std.proofs.lemmas.Bool.Decides.{nat_tests}
 use Rattle.fields.specs.Cutting.{before, pieces, parts, first_part}
 use Rattle.fields.proofs.Counts.{before_within, piece_ends, last_part}
-use Rattle.event_text.specs.declared.fault.TextFault.TheVariants.{NoForm, BadNumber}
+use Rattle.event_text.specs.declared.fault.TextFault.TheVariants.{NoForm}
 use Rattle.event_text.specs.declared.form.Wanted.{Wanted}
 use Rattle.event_text.specs.declared.form.Found.{Found}
 use Rattle.event_text.specs.Grammar.{is_field, field_number, of_form, before_all, numbers, unless_bad, form_read}
-use Rattle.event_text.specs.Places.{next_place, or_zero, told_of, found_next, left}
+use Rattle.event_text.specs.Places.{next_place, found_next, left, gathered, each_there}
+use Rattle.event_text.proofs.Cutout.{found}
 
 -- the parts from a place on: the part there, then those from the next place on
 parts_step : (l : List ℕ) (i : ℕ) → parts (drop i l) ≡ first_part (drop i l) ∷ left l (next_place l (i + length (first_part (drop i l))))
@@ -30,31 +31,19 @@ parts_step l i =
     ∙ (λ j. sym (take_all (before 32 (drop i l)) (drop i l) last) j ∷ ap (left l) (sym (cond-false _ (Some (i + length (first_part (drop i l)) + 1)) None test)) j))
     (cases_lt (before 32 (drop i l)) (length (drop i l)))
 
--- numbers, then others, where all are there
-abbrev pub joined : Option (List ℕ) → Option (List ℕ) → Option (List ℕ)
-joined None r = None
-joined (Some ns) None = None
-joined (Some ns) (Some ms) = Some (ns ++ ms)
-
 -- the first i fields of the form ws were found in l; the next one begins at k
-pub record Sofar (ws : List Wanted) (l : List ℕ) (i : ℕ) (fit : Bool) (out : List ℕ) (k : Option ℕ) : Type 0 where
+pub record Sofar (ws : List Wanted) (l : List ℕ) (i : ℕ) (out : List (Option ℕ)) (k : Option ℕ) : Type 0 where
   pub room : length out ≡ length ws
   pub fields : of_form ws (parts l) ≡ of_form (drop i ws) (left l k)
-  pub values : numbers ws (parts l) ≡ joined (cond fit (Some (take i out)) None) (numbers (drop i ws) (left l k))
+  pub values : numbers ws (parts l) ≡ gathered (take i out) (numbers (drop i ws) (left l k))
 
-nothing_yet : (r : Option (List ℕ)) → r ≡ joined (Some []) r
-nothing_yet None = refl
-nothing_yet (Some ns) = refl
-
-pub at_start : (ws : List Wanted) (l out : List ℕ) → length out ≡ length ws → Sofar ws l 0 true out (Some 0)
-at_start ws l out e = record { room = e; fields = refl; values = nothing_yet _ }
+pub at_start : (ws : List Wanted) (l : List ℕ) (out : List (Option ℕ)) → length out ≡ length ws → Sofar ws l 0 out (Some 0)
+at_start ws l out e = record { room = e; fields = refl; values = refl }
 
 -- one number more
-number_more : (fit : Bool) (xs out : List ℕ) (n : Option ℕ) (r : Option (List ℕ)) → out ≡ xs ++ or_zero n ∷ [] → joined (cond fit (Some xs) None) (before_all n r) ≡ joined (cond (fit && is_some n) (Some out) None) r
-number_more false xs out n r e = refl
-number_more true xs out None r e = refl
-number_more true xs out (Some n) None e = refl
-number_more true xs out (Some n) (Some ms) e = ap Some (sym (ap (λ (o : List ℕ). o ++ ms) e ∙ append_assoc xs (n ∷ []) ms))
+gathered_more : (ns : List (Option ℕ)) (n : Option ℕ) (r : Option (List ℕ)) → gathered (ns ++ n ∷ []) r ≡ gathered ns (before_all n r)
+gathered_more [] n r = refl
+gathered_more (m ∷ ns) n r = ap (before_all m) (gathered_more ns n r)
 
 -- what a test with nothing behind it was
 cond_none : {A : Type 0} (b : Bool) (x : A) → None ≡ cond b (Some x) None → b ≡ false
@@ -73,57 +62,41 @@ with_form : (ws : List Wanted) (l : List ℕ) (r : Option (List ℕ)) → of_for
 unfolding form_read
 with_form ws l r e n = ap unless_bad (sym n) ∙ sym (cond-true _ (unless_bad (numbers ws (parts l))) (Err NoForm) e)
 
-module _ (ws : List Wanted) (l : List ℕ) (i : ℕ) (fit : Bool) (out : List ℕ) (d : Wanted) where
-  pub absent : (k : Option ℕ) → Sofar ws l i fit out k → i < length ws → None ≡ found_next (get_or ws i d) l k → Err NoForm ≡ form_read ws l
+module _ (ws : List Wanted) (l : List ℕ) (i : ℕ) (out : List (Option ℕ)) (d : Wanted) where
+  pub absent : (k : Option ℕ) → Sofar ws l i out k → i < length ws → None ≡ found_next (get_or ws i d) l k → Err NoForm ≡ form_read ws l
   unfolding of_form
   absent None s h e = no_form ws l (s.fields ∙ ap (λ (v : List Wanted). of_form v []) (drop_more ws i d h))
   absent (Some j) s h e =
       let other = cond_none (is_field (get_or ws i d) (first_part (drop j l))) _ e in
       no_form ws l (s.fields ∙ (λ t. of_form (drop_more ws i d h t) (parts_step l j t)) ∙ ap (λ (b : Bool). b && of_form (drop (i + 1) ws) (left l (next_place l (j + length (first_part (drop j l)))))) other)
 
-  pub one_more : (k : Option ℕ) → Sofar ws l i fit out k → i < length ws → (f : Found) → Some f ≡ found_next (get_or ws i d) l k → Sofar ws l (i + 1) (fit && f.fits) (set out i f.number) f.next
+  pub one_more : (k : Option ℕ) → Sofar ws l i out k → i < length ws → (f : Found) → Some f ≡ found_next (get_or ws i d) l k → Sofar ws l (i + 1) (set out i f.number) f.next
   unfolding of_form numbers
   one_more None s h f e = let z : ◌≡◌ {A = ℕ} 0 1 = cc in absurd (omega arith)
   one_more (Some j) s h f e =
       let p = first_part (drop j l) in
       let n = field_number (get_or ws i d) (first_part (drop j l)) in
       let nx = next_place l (j + length (first_part (drop j l))) in
-      let was = cond_some (is_field (get_or ws i d) p) (told_of n nx) f e in
+      let was = cond_some (is_field (get_or ws i d) p) (found n nx) f e in
       let room : i < length out = omega (arith, s.room) in
-      subst (λ (g : Found). Sofar ws l (i + 1) (fit && g.fits) (set out i g.number) g.next) (sym was.1) (record {
-        room = length-set out i (or_zero n) ∙ s.room;
+      subst (λ (g : Found). Sofar ws l (i + 1) (set out i g.number) g.next) (sym was.1) (record {
+        room = length-set out i n ∙ s.room;
         fields = s.fields ∙ (λ t. of_form (drop_more ws i d h t) (parts_step l j t)) ∙ ap (λ (b : Bool). b && of_form (drop (i + 1) ws) (left l nx)) was.0;
         values = s.values
-            ∙ ap (joined (cond fit (Some (take i out)) None)) (λ t. numbers (drop_more ws i d h t) (parts_step l j t))
-            ∙ number_more fit (take i out) (take (i + 1) (set out i (or_zero n))) n (numbers (drop (i + 1) ws) (left l nx)) (take_more_set out i (or_zero n) room);
+            ∙ ap (gathered (take i out)) (λ t. numbers (drop_more ws i d h t) (parts_step l j t))
+            ∙ sym (gathered_more (take i out) n (numbers (drop (i + 1) ws) (left l nx)))
+            ∙ ap (λ (ns : List (Option ℕ)). gathered ns (numbers (drop (i + 1) ws) (left l nx))) (sym (take_more_set out i n room));
       })
 
-too_many : (ws : List Wanted) (l : List ℕ) (i : ℕ) (fit : Bool) (out : List ℕ) (j : ℕ) → Sofar ws l i fit out (Some j) → length ws ≤ i → Err NoForm ≡ form_read ws l
+-- the ends of the reading
+pub more_fields : (ws : List Wanted) (l : List ℕ) (i : ℕ) (out : List (Option ℕ)) (k : Option ℕ) → true ≡ is_some k → Sofar ws l i out k → length ws ≤ i → Err NoForm ≡ form_read ws l
 unfolding of_form
-too_many ws l i fit out j s h = no_form ws l (s.fields ∙ (λ t. of_form (drop_all i ws h t) (parts_step l j t)))
+more_fields ws l i out None e s h = absurd (true≢false e)
+more_fields ws l i out (Some j) e s h = no_form ws l (s.fields ∙ (λ t. of_form (drop_all i ws h t) (parts_step l j t)))
 
-bad_number : (ws : List Wanted) (l : List ℕ) (i : ℕ) (out : List ℕ) → Sofar ws l i false out None → length ws ≤ i → Err BadNumber ≡ form_read ws l
-unfolding of_form
-bad_number ws l i out s h = with_form ws l None (s.fields ∙ ap (λ (v : List Wanted). of_form v []) (drop_all i ws h)) s.values
-
-all_read : (ws : List Wanted) (l : List ℕ) (i : ℕ) (out : List ℕ) → Sofar ws l i true out None → length ws ≤ i → Ok out ≡ form_read ws l
+pub all_read : (ws : List Wanted) (l : List ℕ) (i : ℕ) (out : List (Option ℕ)) (k : Option ℕ) → false ≡ is_some k → Sofar ws l i out k → length ws ≤ i → unless_bad (each_there out) ≡ form_read ws l
 unfolding of_form numbers
-all_read ws l i out s h =
-    with_form ws l (Some out) (s.fields ∙ ap (λ (v : List Wanted). of_form v []) (drop_all i ws h))
-    (s.values ∙ ap (λ (v : List Wanted). joined (Some (take i out)) (numbers v [])) (drop_all i ws h) ∙ ap Some (append-nil (take i out) ∙ take_all i out (omega (arith, s.room))))
-
--- the three ends of the reading, as the tests tell them apart
-module _ (ws : List Wanted) (l : List ℕ) (i : ℕ) (out : List ℕ) where
-  pub more_fields : (fit : Bool) (k : Option ℕ) → true ≡ is_some k → Sofar ws l i fit out k → length ws ≤ i → Err NoForm ≡ form_read ws l
-  more_fields fit None e s h = absurd (true≢false e)
-  more_fields fit (Some j) e s h = too_many ws l i fit out j s h
-
-  pub one_unfit : (fit : Bool) (k : Option ℕ) → false ≡ is_some k → fit ≡ false → Sofar ws l i fit out k → length ws ≤ i → Err BadNumber ≡ form_read ws l
-  one_unfit false None e f s h = bad_number ws l i out s h
-  one_unfit true None e f s h = absurd (true≢false f)
-  one_unfit fit (Some j) e f s h = absurd (false≢true e)
-
-  pub each_fits : (fit : Bool) (k : Option ℕ) → false ≡ is_some k → fit ≡ true → Sofar ws l i fit out k → length ws ≤ i → Ok out ≡ form_read ws l
-  each_fits true None e f s h = all_read ws l i out s h
-  each_fits false None e f s h = absurd (false≢true f)
-  each_fits fit (Some j) e f s h = absurd (false≢true e)
+all_read ws l i out (Some j) e s h = absurd (false≢true e)
+all_read ws l i out None e s h =
+    with_form ws l (each_there out) (s.fields ∙ ap (λ (v : List Wanted). of_form v []) (drop_all i ws h))
+    (s.values ∙ ap (λ (v : List Wanted). gathered (take i out) (numbers v [])) (drop_all i ws h) ∙ ap each_there (take_all i out (omega (arith, s.room))))

@@ -13,6 +13,10 @@ use Rattle.event_text.specs.Grammar.{form_read, made, or_else, unless_long}
 abbrev pub request_of : {D : Type 0} → List ℕ → Result (Call D) TextFault
 request_of l = made (λ ns. Request (slice_index ns 1) (slice_index ns 2)) (form_read (Word Event Written.Request ∷ Number Task ∷ Number Resource ∷ []) l)
 
+-- the task of a line of one word and a task
+abbrev pub task_after : Written → List ℕ → Result ℕ TextFault
+task_after w l = made (λ ns. slice_index ns 1) (form_read (Word Event w ∷ Number Task ∷ []) l)
+
 -- ev=release task=N
 abbrev pub release_of : {D : Type 0} → List ℕ → Result (Call D) TextFault
 release_of l = made (λ ns. Release (slice_index ns 1)) (form_read (Word Event Written.Release ∷ Number Task ∷ []) l)

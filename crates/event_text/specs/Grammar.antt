@@ -1,5 +1,5 @@
 -- Forms of lines
-use Rattle.std.specs.Prelude.{ℕ, Bool, true, false, cond, ◌&&◌, List, [], ◌∷◌, length, Some, None, Ok, Err, Option, Result, nat_lt}
+use Rattle.std.specs.Prelude.{◌≡◌, ℕ, Bool, true, false, cond, ◌&&◌, List, [], ◌∷◌, length, Some, None, Ok, Err, Option, Result, nat_lt}
 use Rattle.std.specs.Str.{bytes_eq}
 use Rattle.fields.specs.Cutting.{parts}
 use Rattle.field_names.specs.Names.{name_text, after}
@@ -69,6 +69,13 @@ or_else (Ok a) r = Ok a
 or_else (Err TooLong) r = Err TooLong
 or_else (Err NoForm) r = r
 or_else (Err BadNumber) r = Err BadNumber
+
+-- the same, where the other form is said by what its reading may give
+abbrev pub OrElse : {A : Type 0} → Result A TextFault → (Result A TextFault → Type 0) → Result A TextFault → Type 0
+OrElse (Ok a) Other r = r ≡ Ok a
+OrElse (Err TooLong) Other r = r ≡ Err TooLong
+OrElse (Err NoForm) Other r = Other r
+OrElse (Err BadNumber) Other r = r ≡ Err BadNumber
 
 -- a line of more than 80 bytes is too long, whatever it holds
 abbrev pub unless_long : {A : Type 0} → List ℕ → Result A TextFault → Result A TextFault

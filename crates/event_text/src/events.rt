@@ -1,10 +1,10 @@
 ghost use Rattle.std.specs.Prelude.{◌≡◌};
 ghost use Rattle.event_text.specs.Grammar.{or_else, unless_long};
-ghost use Rattle.event_text.specs.Events.{deadline_arrival, fixed_arrival, request_of, release_of, finish_of, tick_of, other_event, deadline_event_of, fixed_event_of};
+ghost use Rattle.event_text.specs.Events.{task_after, deadline_arrival, fixed_arrival, request_of, release_of, finish_of, tick_of, other_event, deadline_event_of, fixed_event_of};
 
 use crate::fault::TextFault;
 use crate::form::Wanted;
-use crate::read::{is_too_long, read_form};
+use crate::read::{is_too_long, or_else, read_form};
 use field_names::Name;
 use fields::Word;
 use keys::BandLevel;
@@ -18,67 +18,51 @@ fn read_request<D>(line: &[u8]) -> Result<Call<D>, TextFault>
         Wanted::Number(Name::Task),
         Wanted::Number(Name::Resource),
     ];
-    match read_form(line, form) {
-        Ok(numbers) => Ok(Call::Request(numbers[1], numbers[2])),
-        Err(fault) => Err(fault),
-    }
+    let [_, task, resource] = read_form(line, form)?;
+    Ok(Call::Request(task, resource))
 }
 
+// The task that a line names after one word.
+fn read_task(line: &[u8], word: Word) -> Result<u32, TextFault>
+    ensures { result ≡ task_after word line.now }
+{
+    let form = [Wanted::Word(Name::Event, word), Wanted::Number(Name::Task)];
+    let [_, task] = read_form(line, form)?;
+    Ok(task)
+}
+
+// The two events differ in their word and their call; what they share is `read_task`.
 fn read_release<D>(line: &[u8]) -> Result<Call<D>, TextFault>
     ensures { result ≡ release_of line.now }
 {
-    match read_form(
-        line,
-        [
-            Wanted::Word(Name::Event, Word::Release),
-            Wanted::Number(Name::Task),
-        ],
-    ) {
-        Ok(numbers) => Ok(Call::Release(numbers[1])),
-        Err(fault) => Err(fault),
-    }
+    let task = read_task(line, Word::Release)?;
+    Ok(Call::Release(task))
 }
 
 fn read_finish<D>(line: &[u8]) -> Result<Call<D>, TextFault>
     ensures { result ≡ finish_of line.now }
 {
-    match read_form(
-        line,
-        [
-            Wanted::Word(Name::Event, Word::Finish),
-            Wanted::Number(Name::Task),
-        ],
-    ) {
-        Ok(numbers) => Ok(Call::Finish(numbers[1])),
-        Err(fault) => Err(fault),
-    }
+    let task = read_task(line, Word::Finish)?;
+    Ok(Call::Finish(task))
 }
 
 fn read_tick<D>(line: &[u8]) -> Result<Call<D>, TextFault>
     ensures { result ≡ tick_of line.now }
 {
-    match read_form(line, [Wanted::Word(Name::Event, Word::Tick)]) {
-        Ok(_) => Ok(Call::Tick),
-        Err(fault) => Err(fault),
-    }
+    read_form(line, [Wanted::Word(Name::Event, Word::Tick)])?;
+    Ok(Call::Tick)
 }
 
 // The events that both kinds of key have.
-fn read_other<D>(line: &[u8]) -> Result<Call<D>, TextFault>
+fn read_other<D: Copy>(line: &[u8]) -> Result<Call<D>, TextFault>
     ensures { result ≡ other_event line.now }
 {
-    match read_request(line) {
-        Err(TextFault::NoForm) => {}
-        read => return read,
-    }
-    match read_release(line) {
-        Err(TextFault::NoForm) => {}
-        read => return read,
-    }
-    match read_finish(line) {
-        Err(TextFault::NoForm) => read_tick(line),
-        read => read,
-    }
+    or_else(read_request(line), || {
+        or_else(
+            read_release(line),
+            || or_else(read_finish(line), || read_tick(line)),
+        )
+    })
 }
 
 // A line too long is refused as such; an arrival comes first, then the other events.
@@ -91,12 +75,10 @@ fn read_event<D: Copy>(
     if is_too_long(line) {
         return Err(TextFault::TooLong);
     }
-    match arrival {
-        Err(TextFault::NoForm) => read_other(line),
-        read => read,
-    }
+    or_else(arrival, || read_other(line))
 }
 
+// Two kinds of key have two forms of arrival.
 fn deadline_arrival(line: &[u8]) -> Result<Call<u32>, TextFault>
     ensures { result ≡ deadline_arrival line.now }
 {
@@ -105,10 +87,8 @@ fn deadline_arrival(line: &[u8]) -> Result<Call<u32>, TextFault>
         Wanted::Number(Name::Task),
         Wanted::Number(Name::Due),
     ];
-    match read_form(line, form) {
-        Ok(numbers) => Ok(Call::Arrive(numbers[1], numbers[2])),
-        Err(fault) => Err(fault),
-    }
+    let [_, task, due] = read_form(line, form)?;
+    Ok(Call::Arrive(task, due))
 }
 
 fn fixed_arrival(line: &[u8]) -> Result<Call<BandLevel>, TextFault>
@@ -120,19 +100,12 @@ fn fixed_arrival(line: &[u8]) -> Result<Call<BandLevel>, TextFault>
         Wanted::Number(Name::Band),
         Wanted::Number(Name::Level),
     ];
-    match read_form(line, form) {
-        Ok(numbers) => Ok(Call::Arrive(
-            numbers[1],
-            BandLevel {
-                band: numbers[2],
-                level: numbers[3],
-            },
-        )),
-        Err(fault) => Err(fault),
-    }
+    let [_, task, band, level] = read_form(line, form)?;
+    Ok(Call::Arrive(task, BandLevel { band, level }))
 }
 
-// The event that a line writes for a kernel with deadline keys, or why not.
+// The event that a line writes for a kernel with deadline keys, or why not. The
+// two readers differ in the form of their arrival; what they share is `read_event`.
 pub fn read_deadline_event(line: &[u8]) -> Result<Call<u32>, TextFault>
     ensures { result ≡ deadline_event_of line.now }
 {

@@ -1,29 +1,30 @@
-ghost use Rattle.std.specs.Prelude.{◌≡◌, ◌<◌, length};
+ghost use Rattle.std.specs.Prelude.{◌≡◌};
 ghost use Rattle.event_text.specs.Headers.{order_word, key_word, header_as, header_with, header_of};
 
 use crate::fault::TextFault;
 use crate::form::Wanted;
 use crate::heading::{Header, KeyWord, OrderWord};
-use crate::read::{is_too_long, read_form};
+use crate::read::{is_too_long, or_else, read_form};
 use field_names::Name;
 use fields::Word;
 
-impl OrderWord {
-    fn word(self) -> Word
-        ensures { result ≡ order_word self }
-    {
-        match self {
+impl From<OrderWord> for Word {
+    ghost from_gives = { λ order word. word ≡ order_word order };
+
+    fn from(order: OrderWord) -> Word {
+        match order {
             OrderWord::Fifo => Word::Fifo,
             OrderWord::Gate => Word::Gate,
         }
     }
 }
 
-impl KeyWord {
-    fn word(self) -> Word
-        ensures { result ≡ key_word self }
-    {
-        match self {
+// Each kind of word is an enum of its own, so each has its table.
+impl From<KeyWord> for Word {
+    ghost from_gives = { λ key word. word ≡ key_word key };
+
+    fn from(key: KeyWord) -> Word {
+        match key {
             KeyWord::Deadline => Word::Deadline,
             KeyWord::Fixed => Word::Fixed,
         }
@@ -38,29 +39,26 @@ fn header_as(line: &[u8], order: OrderWord, key: KeyWord) -> Result<Header, Text
         Wanted::Number(Name::Cores),
         Wanted::Number(Name::Tasks),
         Wanted::Number(Name::Resources),
-        Wanted::Word(Name::Order, order.word()),
-        Wanted::Word(Name::Key, key.word()),
+        Wanted::Word(Name::Order, order.into()),
+        Wanted::Word(Name::Key, key.into()),
     ];
-    match read_form(line, form) {
-        Ok(numbers) => Ok(Header {
-            cores: numbers[0],
-            tasks: numbers[1],
-            resources: numbers[2],
-            order,
-            key,
-        }),
-        Err(fault) => Err(fault),
-    }
+    let [cores, tasks, resources, _, _] = read_form(line, form)?;
+    Ok(Header {
+        cores,
+        tasks,
+        resources,
+        order,
+        key,
+    })
 }
 
 // The line as a header with this order, and either kind of key.
 fn header_with(line: &[u8], order: OrderWord) -> Result<Header, TextFault>
     ensures { result ≡ header_with order line.now }
 {
-    match header_as(line, order, KeyWord::Deadline) {
-        Err(TextFault::NoForm) => header_as(line, order, KeyWord::Fixed),
-        read => read,
-    }
+    or_else(header_as(line, order, KeyWord::Deadline), || {
+        header_as(line, order, KeyWord::Fixed)
+    })
 }
 
 // The header that a line writes, or why not.
@@ -70,8 +68,8 @@ pub fn read_header(line: &[u8]) -> Result<Header, TextFault>
     if is_too_long(line) {
         return Err(TextFault::TooLong);
     }
-    match header_with(line, OrderWord::Fifo) {
-        Err(TextFault::NoForm) => header_with(line, OrderWord::Gate),
-        read => read,
-    }
+    or_else(
+        header_with(line, OrderWord::Fifo),
+        || header_with(line, OrderWord::Gate),
+    )
 }

@@ -7,13 +7,9 @@ use fields::place_of;
 pub fn cut_line<'a>(bytes: &'a [u8]) -> Option<(&'a [u8], &'a [u8])>
     ensures { CutLine bytes.now result }
 {
-    if bytes.len() == 0 {
+    if bytes.is_empty() {
         return None;
     }
     let end = place_of(bytes, b'\n');
-    if end < bytes.len() {
-        Some((&bytes[0..end], &bytes[end + 1..]))
-    } else {
-        Some((bytes, &bytes[end..]))
-    }
+    Some((&bytes[..end], bytes.get(end + 1..).unwrap_or(b"")))
 }

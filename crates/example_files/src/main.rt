@@ -17,22 +17,14 @@
 #![tactic(auto)]
 
 use event_file::run_file;
-use event_report::{Fault, Report};
+use event_report::Report;
 use std::{fs, io};
-
-// Says which line was refused, and by what.
-fn tell_fault(rt: HostRuntime, fault: Fault) -> io::Result<()> {
-    let line = fault.line;
-    let number = fault.why.number();
-    let layer = fault.why.layer().word();
-    println!(rt; "line {line}: refused with {number} ({layer})")
-}
 
 // Prints the answers, and then what was refused.
 fn tell_report(rt: HostRuntime, report: &Report) -> io::Result<()> {
     rt.print(report.output.as_str())?;
-    for fault in report.faults.iter() {
-        tell_fault(rt, *fault)?;
+    for fault in &report.faults {
+        println!(rt; "{fault}")?;
     }
     Ok(())
 }
@@ -47,8 +39,13 @@ fn run_example(rt: HostRuntime, name: &str) -> anyhow::Result<()> {
 }
 
 fn main(rt: HostRuntime) -> anyhow::Result<()> {
-    run_example(rt, "dock.events")?;
-    run_example(rt, "scan_head.events")?;
-    run_example(rt, "longest_wait.events")?;
-    run_example(rt, "wrong.events")
+    for name in [
+        "dock.events",
+        "scan_head.events",
+        "longest_wait.events",
+        "wrong.events",
+    ] {
+        run_example(rt, name)?;
+    }
+    Ok(())
 }

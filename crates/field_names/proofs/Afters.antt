@@ -1,5 +1,5 @@
 -- What a pattern takes is what follows the name
-use Rattle.std.proofs.Common.{◌≡◌, ℕ, suc, ◌+◌, Bool, true, false, cond, ◌&&◌, eqb, leb, List, [], ◌∷◌, ◌++◌, length, drop, Some, None, Option, sym, refl, ap, ◌∙◌, add-one, arith}
+use Rattle.std.proofs.Common.{◌≡◌, ℕ, suc, ◌+◌, Bool, true, false, cond, ◌&&◌, eqb, leb, List, [], ◌∷◌, length, drop, Some, None, Option, sym, refl, ap, ◌∙◌, add-one, arith}
 use Rattle.std.proofs.lemmas.List.{take_rest}
 use Rattle.std.proofs.lemmas.Bool.{le-leb, lt-leb}
 use Rattle.std.proofs.lemmas.Bool.Decides.{nat_tests}
@@ -31,21 +31,6 @@ after_is (p ∷ ps) (x ∷ l) =
     after_drop (p ∷ ps) (x ∷ l)
     ∙ rw (same, stand_next 0 x ps l) (tests (leb (length ps) (length l)) (eqb x p) (stand_at 0 ps l) (Some (drop (length ps) l)) None)
     ∙ ap (λ (r : Option (List ℕ)). cond (eqb x p) r None) (sym (after_drop ps l) ∙ after_is ps l)
-
--- what follows a name of two parts follows the second in what follows the first
-abbrev pub then_after : Option (List ℕ) → List ℕ → Option (List ℕ)
-then_after None qs = None
-then_after (Some l) qs = after qs l
-
-pub after_both : (ps qs l : List ℕ) → after (ps ++ qs) l ≡ then_after (after ps l) qs
-unfolding after
-after_both [] qs l = refl
-after_both (p ∷ ps) qs [] = refl
-after_both (p ∷ ps) qs (x ∷ l) = elim (eqb x p) as (λ b. cond b (after (ps ++ qs) l) None ≡ then_after (cond b (after ps l) None) qs) [ true ↦ after_both ps qs l | false ↦ refl ]
-
-pub after_at_both : (ps qs l rest : List ℕ) (r : Option (List ℕ)) → Some rest ≡ after_at ps l → r ≡ after_at qs rest → r ≡ after_at (ps ++ qs) l
-after_at_both ps qs l rest r first second =
-    second ∙ after_is qs rest ∙ ap (λ o. then_after o qs) (first ∙ after_is ps l) ∙ sym (after_both ps qs l) ∙ sym (after_is (ps ++ qs) l)
 
 -- a name and what follows it are the whole
 pub after_whole : (ps l v : List ℕ) → after ps l ≡ Some v → length l ≡ length ps + length v

@@ -1,5 +1,5 @@
 // The names of fields.
-#[derive(Clone, Copy)]
+#[derive(Clone, Copy, Debug, PartialEq, Eq)]
 pub enum Name {
     Cores,
     Tasks,

@@ -1,25 +1,14 @@
 -- Where the first such byte stands, byte by byte, and what is cut there
-use Rattle.std.proofs.Common.{◌≡◌, ℕ, suc, ◌+◌, ◌<◌, ◌≤◌, Bool, true, false, cond, eqb, List, [], ◌∷◌, length, get_or, take, drop, sym, refl, ap, add-one, arith}
-use Rattle.std.proofs.lemmas.List.{at_drop_more, at_drop_all, drop_all}
+use Rattle.std.proofs.Common.{◌≡◌, ℕ, suc, ◌+◌, ◌<◌, ◌≤◌, Bool, true, false, cond, eqb, List, [], ◌∷◌, length, take, drop, refl, ap, add-one, one-add, arith}
+use Rattle.std.specs.List.{position_or_len}
+use Rattle.std.proofs.lemmas.List.Recursion.{is_position_or_len}
 use Rattle.std.proofs.lemmas.Bool.Decides.{nat_tests}
-use Rattle.fields.specs.Cutting.{before, onto, pieces, first_part}
+use Rattle.fields.specs.Cutting.{before, onto, pieces}
 
-step : (b : ℕ) (l : List ℕ) (i : ℕ) → i < length l → before b (drop i l) ≡ cond (eqb (get_or l i 0) b) 0 (suc (before b (drop (i + 1) l)))
+-- it is the first place at which the byte stands
+pub place_is : (b : ℕ) (l : List ℕ) → before b l ≡ position_or_len (λ x. eqb x b) l
 unfolding before
-step b l i h = at_drop_more (before b) l i 0 h
-
-end : (b : ℕ) (l : List ℕ) (i : ℕ) → length l ≤ i → before b (drop i l) ≡ 0
-unfolding before
-end b l i h = at_drop_all (before b) l i h
-
-pub found : (b : ℕ) (l : List ℕ) (i : ℕ) → i < length l → before b l ≡ i + before b (drop i l) → get_or l i 0 ≡ b → i ≡ before b l
-found b l i h e is = let s = step b l i h in grind (arith, nat_tests)
-
-pub passed : (b : ℕ) (l : List ℕ) (i : ℕ) → i < length l → before b l ≡ i + before b (drop i l) → (get_or l i 0 ≡ b → ⊥) → before b l ≡ (i + 1) + before b (drop (i + 1) l)
-passed b l i h e other = let s = step b l i h in grind (arith, nat_tests)
-
-pub nowhere : (b : ℕ) (l : List ℕ) (i : ℕ) → length l ≤ i → i ≤ length l → before b l ≡ i + before b (drop i l) → length l ≡ before b l
-nowhere b l i h k e = let s = end b l i h in omega arith
+place_is b l = is_position_or_len (before b) (λ x. eqb x b) refl (λ x xs. rw one-add) l
 
 pub before_within : (b : ℕ) (l : List ℕ) → before b l ≤ length l
 unfolding before
@@ -52,11 +41,6 @@ last_part b [] h = refl
 last_part b (x ∷ xs) h =
     let e : eqb x b ≡ false = grind (arith, nat_tests) in
     rw (e, last_part b xs (omega (arith, rw e at h)))
-
--- nothing stands past the end
-pub past_end : (l : List ℕ) (i : ℕ) → length l ≤ i → [] ≡ first_part (drop i l)
-unfolding before
-past_end l i h = ap first_part (sym (drop_all i l h))
 
 -- the bytes before the first b have none
 none_before : (b x : ℕ) (xs : List ℕ) (t : Bool) → eqb x b ≡ t → before b (take (before b xs) xs) ≡ length (take (before b xs) xs) → before b (take (cond t 0 (suc (before b xs))) (x ∷ xs)) ≡ length (take (cond t 0 (suc (before b xs))) (x ∷ xs))

@@ -1,5 +1,5 @@
 -- The field that is cut from a line
-use Rattle.std.proofs.Common.{◌≡◌, ℕ, ◌-◌, Bool, List, length, take, drop, Some, None, Option, sym, ap, ◌∙◌, arith}
+use Rattle.std.proofs.Common.{◌≡◌, ℕ, ◌-◌, Bool, List, length, take, drop, Some, Option, sym, ap, ◌∙◌, arith}
 use Rattle.field_names.specs.declared.name.Name.{Name}
 use Rattle.fields.specs.Cutting.{first_part}
 use Rattle.field_names.specs.Names.{name_text, after}
@@ -12,14 +12,9 @@ abbrev with_name : List ℕ → List ℕ → ℕ → ℕ → Bool → Option Sho
 with_name part v i k b = Some (record { name = take k part; value = v; at = i; number = b })
 
 module _ (l : List ℕ) (i : ℕ) (n : Name) (part : List ℕ) (from : part ≡ first_part (drop i l)) where
-  pub not_taken : None ≡ after (name_text n) part → None ≡ field_at l i n
-  not_taken none =
-      ap (cut_field part i (length (name_text n))) none
-      ∙ ap (λ p. cut_field p i (length (name_text n)) (after (name_text n) p)) from
-
-  pub taken : (v : List ℕ) (b : Bool) → Some v ≡ after (name_text n) part → b ≡ is_number v → Some (record { name = take (length part - length v - 0) part; value = v; at = i; number = b }) ≡ field_at l i n
+  pub taken : (v : List ℕ) (b : Bool) → Some v ≡ after (name_text n) part → b ≡ is_number v → Some (record { name = take (length part - length v) part; value = v; at = i; number = b }) ≡ field_at l i n
   taken v b some told =
-      let long : length part - length v - 0 ≡ length (name_text n) = omega (arith, after_whole (name_text n) part v (sym some)) in
+      let long : length part - length v ≡ length (name_text n) = omega (arith, after_whole (name_text n) part v (sym some)) in
       (λ j. with_name part v i (long j) (told j))
       ∙ ap (cut_field part i (length (name_text n))) some
       ∙ ap (λ p. cut_field p i (length (name_text n)) (after (name_text n) p)) from

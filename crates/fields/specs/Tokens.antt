@@ -17,8 +17,8 @@ pub record Shown : Type 0 where
 -- what a field shows, if there is one
 abbrev pub shown : Option Field → Option Shown
 shown None = None
-shown (Some (Number n v i)) = Some (record { name = n.now; value = v.now; at = i; number = true })
-shown (Some (Word n v i)) = Some (record { name = n.now; value = v.now; at = i; number = false })
+shown (Some (Number cut)) = Some (record { name = cut.name.now; value = cut.value.now; at = cut.at; number = true })
+shown (Some (Word cut)) = Some (record { name = cut.name.now; value = cut.value.now; at = cut.at; number = false })
 
 -- a part of a line, with the name's length and what follows the name, as a field
 abbrev pub cut_field : List ℕ → ℕ → ℕ → Option (List ℕ) → Option Shown

@@ -6,28 +6,13 @@ pub fn place_of(bytes: &[u8], byte: u8) -> usize
     ensures place { result ≡ before byte bytes.now }
     ensures within { result ≤ length bytes.now }
 {
-    for (i, other) in bytes.iter().enumerate() {
-        if *other == byte {
-            return i;
-        }
-    }
-    bytes.len()
-}
-
-// The bytes up to the first space or the end.
-fn first_part<'a>(bytes: &'a [u8]) -> &'a [u8]
-    ensures { result.now ≡ first_part bytes.now }
-{
-    let end = place_of(bytes, b' ');
-    &bytes[0..end]
+    bytes.iter().position(|b| *b == byte).unwrap_or(bytes.len())
 }
 
 // The part of a line that begins at a place, up to the next space or the end.
 pub(crate) fn part_at<'a>(line: &'a [u8], at: usize) -> &'a [u8]
     ensures { result.now ≡ first_part (drop at line.now) }
 {
-    if at > line.len() {
-        return b"";
-    }
-    first_part(&line[at..])
+    let rest = line.get(at..).unwrap_or(b"");
+    &rest[..place_of(rest, b' ')]
 }

@@ -11,7 +11,7 @@ mod word;
 mod words;
 
 pub use cut::place_of;
-pub use field::Field;
+pub use field::{Cut, Field};
 pub use numbers::number;
 pub use take::field_at;
 pub use word::Word;

@@ -2,7 +2,7 @@ ghost use Rattle.std.specs.Prelude.{◌≡◌};
 ghost use Rattle.fields.specs.Tokens.{shown, field_at};
 
 use crate::cut::part_at;
-use crate::field::Field;
+use crate::field::{Cut, Field};
 use crate::numbers::is_number;
 use field_names::Name;
 
@@ -12,13 +12,12 @@ pub fn field_at<'a>(line: &'a [u8], at: usize, wanted: Name) -> Option<Field<'a>
     ensures { shown result ≡ field_at line.now at wanted }
 {
     let part = part_at(line, at);
-    let Some(value) = wanted.after(part) else {
-        return None;
-    };
-    let name = &part[0..part.len() - value.len()];
+    let value = wanted.after(part)?;
+    let name = &part[..part.len() - value.len()];
+    let cut = Cut { name, value, at };
     if is_number(value) {
-        Some(Field::Number { name, value, at })
+        Some(Field::Number(cut))
     } else {
-        Some(Field::Word { name, value, at })
+        Some(Field::Word(cut))
     }
 }

@@ -1,5 +1,5 @@
 // The words that a field may have in place of a number.
-#[derive(Clone, Copy)]
+#[derive(Clone, Copy, Debug, PartialEq, Eq)]
 pub enum Word {
     Fifo,
     Gate,

@@ -5,6 +5,7 @@ ghost use Rattle.fields.specs.Words.{word_text};
 use crate::word::Word;
 
 impl Word {
+    // The bytes of the word: a file's are compared with them, and nothing prints them.
     fn text(self) -> &'static [u8]
         ensures { result.now ≡ word_text self }
     {

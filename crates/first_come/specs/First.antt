@@ -4,7 +4,8 @@ use Rattle.orders.specs.declared.refusal.OrderRefusal.{OrderRefusal}
 use Rattle.orders.specs.Orders.{Meaning, admit_answer, pass_answer}
 use Rattle.first_come.specs.declared.line.Entry.{Entry}
 use Rattle.first_come.specs.declared.first.FirstCome.{FirstCome}
-use Rattle.first_come.specs.Lines.{empty, waiting, has, place, code_of, leader}
+use Rattle.first_come.specs.Entries.{has, place, code_of, leader}
+use Rattle.first_come.specs.Lines.{empty, waiting}
 
 -- what lines for m cores with p places mean: the first in line holds, a count is a place in line, nobody is covered
 abbrev pub lined : ℕ → ℕ → (ℕ → List Entry) → Meaning

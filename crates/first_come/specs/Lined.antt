@@ -1,116 +1,73 @@
 -- Lines of tasks keep the rules of an order of service
-use Rattle.std.specs.Prelude.{◌≡◌, ℕ, zero, suc, ◌+◌, ◌<◌, ◌≤◌, Bool, true, false, not, ◌&&◌, ◌||◌, List, [], ◌∷◌, ◌++◌, length, drop, Some, None, ◌==◌, ◌≢◌, nat_eq, nat_lt, slice_index_or, refl}
-use Rattle.std.proofs.Common.{arith, sym, ◌∙◌, ap, inl, inr}
+use Rattle.std.specs.Prelude.{◌≡◌, ℕ, zero, suc, ◌<◌, ◌≤◌, true, false, ◌||◌, List, [], ◌∷◌, ◌++◌, length, drop, Some, None, ◌==◌, ◌≢◌, nat_eq, slice_index_or, refl}
+use Rattle.std.proofs.Math.Bool.{or-false}
+use Rattle.std.proofs.Common.{arith, sym, ◌∙◌, ap}
 use Rattle.std.proofs.lemmas.List.{nil_from_length}
-use Rattle.std.proofs.lemmas.Bool.{and_parts, or_cases, or_parts, cases_Bool, true≢false, eq-eqb, ne_eqb, eqb-true, not-true, both_ways, ltb-true, lt-ltb}
+use Rattle.std.proofs.lemmas.Bool.{true≢false, eq-eqb, ne_eqb, lt-ltb}
 use Rattle.std.proofs.lemmas.Bool.Decides.{nat_tests}
 use Rattle.orders.specs.Counting.{tally}
 use Rattle.orders.specs.Orders.{Rules, Kept, Joined, Left}
 use Rattle.orders.proofs.Counts.{tally_more, tally_none}
 use Rattle.first_come.specs.declared.line.Entry.{Entry}
-use Rattle.first_come.specs.Lines.{blank, has, place, code_of, leader, proper}
+use Rattle.first_come.specs.Entries.{blank, has, place, code_of, leader, proper}
 use Rattle.first_come.specs.First.{lined}
 
 -- ---- where a task is in line
 
 pub place_in : (t : ℕ) (xs : List Entry) → has t xs ≡ true → place t xs < length xs
 place_in t [] h = absurd (true≢false (sym h))
-place_in t (e ∷ es) h =
-    elim (cases_Bool (e.task == t)) [
-      | inl y ↦ rw y (omega arith)
-      | inr n ↦ let i = place_in t es (rw n at h) in rw n (omega arith)
-    ]
+place_in t (e ∷ es) h = grind (arith, place_in t es)
 
 -- the entry at the place of a task is that task's
 pub task_at : (t : ℕ) (xs : List Entry) → has t xs ≡ true → (slice_index_or xs (place t xs) blank).task ≡ t
 task_at t [] h = absurd (true≢false (sym h))
-task_at t (e ∷ es) h =
-    elim (cases_Bool (e.task == t)) [
-      | inl y ↦ rw y (eqb-true e.task t y)
-      | inr n ↦ rw n (task_at t es (rw n at h))
-    ]
+task_at t (e ∷ es) h = grind (arith, nat_tests, task_at t es)
 
 pub code_at : (t : ℕ) (xs : List Entry) → has t xs ≡ true → (slice_index_or xs (place t xs) blank).code ≡ code_of t xs
 code_at t [] h = absurd (true≢false (sym h))
-code_at t (e ∷ es) h =
-    elim (cases_Bool (e.task == t)) [
-      | inl y ↦ rw y
-      | inr n ↦ rw n (code_at t es (rw n at h))
-    ]
+code_at t (e ∷ es) h = grind (arith, nat_tests, code_at t es)
 
 -- whose entry stands at a place is in line
 pub has_at : (t i : ℕ) (xs : List Entry) → i < length xs → (slice_index_or xs i blank).task ≡ t → has t xs ≡ true
 has_at t i [] l e = absurd (omega arith)
 has_at t zero (x ∷ xs) l e = rw (eq-eqb x.task t e)
-has_at t (suc i) (x ∷ xs) l e =
-    let h = has_at t i xs (omega arith) e in
-    elim (x.task == t) as (λ b. (b || has t xs) ≡ true) [ true ↦ refl | false ↦ h ]
+has_at t (suc i) (x ∷ xs) l e = grind (arith, has_at t i xs (omega arith) e)
 
 pub below_from_proper : (t : ℕ) (xs : List Entry) → proper xs ≡ true → has t xs ≡ true → t < 64
 below_from_proper t [] p h = absurd (true≢false (sym h))
-below_from_proper t (x ∷ xs) p h =
-    let a = and_parts (nat_lt x.task 64) (not (has x.task xs) && proper xs) p in
-    let b = and_parts (not (has x.task xs)) (proper xs) a.1 in
-    elim (or_cases (x.task == t) (has t xs) h) [
-      | inl y ↦ omega (arith, eqb-true x.task t y, ltb-true x.task 64 a.0)
-      | inr y ↦ below_from_proper t xs b.1 y
-    ]
+below_from_proper t (x ∷ xs) p h = grind (arith, nat_tests, below_from_proper t xs)
 
 pub tally_line : (xs : List Entry) → proper xs ≡ true → tally (λ t. has t xs) 64 ≡ length xs
 tally_line [] p = tally_none (λ t. false) 64 (λ k l. refl)
 tally_line (x ∷ xs) p =
-    let a = and_parts (nat_lt x.task 64) (not (has x.task xs) && proper xs) p in
-    let b = and_parts (not (has x.task xs)) (proper xs) a.1 in
-    let m : tally (λ t. has t (x ∷ xs)) 64 ≡ tally (λ t. has t xs) 64 + 1 =
-    tally_more (λ t. has t xs) (λ t. has t (x ∷ xs)) x.task 64 (ltb-true x.task 64 a.0) (not-true (has x.task xs) b.0) (rw (eq-eqb x.task x.task refl))
-    (λ k ne. rw (ne_eqb x.task k (λ e. ne (sym e)))) in
-    omega (arith, tally_line xs b.1)
+    let rest : proper xs ≡ true = grind arith in
+    omega (arith, tally_more (λ t. has t xs) (λ t. has t (x ∷ xs)) x.task 64 (grind (arith, nat_tests)) (grind arith) (grind (arith, nat_tests)) (λ k ne. grind (arith, nat_tests)), tally_line xs rest)
 
 -- ---- a newcomer at the end of a line
 
 pub has_push : (u : ℕ) (xs : List Entry) (e : Entry) → has u (xs ++ (e ∷ [])) ≡ (has u xs || e.task == u)
-has_push u [] e = elim (e.task == u) as (λ b. (b || false) ≡ b) [ true ↦ refl | false ↦ refl ]
-has_push u (x ∷ xs) e =
-    let i = has_push u xs e in
-    elim (x.task == u) as (λ b. (b || has u (xs ++ (e ∷ []))) ≡ ((b || has u xs) || e.task == u)) [ true ↦ refl | false ↦ i ]
+has_push u [] e = or-false (e.task == u)
+has_push u (x ∷ xs) e = grind (arith, has_push u xs e)
 
 pub place_push : (u : ℕ) (xs : List Entry) (e : Entry) → has u xs ≡ true → place u (xs ++ (e ∷ [])) ≡ place u xs
 place_push u [] e h = absurd (true≢false (sym h))
-place_push u (x ∷ xs) e h =
-    elim (cases_Bool (x.task == u)) [
-      | inl y ↦ rw y
-      | inr n ↦ let i = place_push u xs e (rw n at h) in rw (n, i)
-    ]
+place_push u (x ∷ xs) e h = grind (arith, place_push u xs e)
 
 pub place_last : (xs : List Entry) (e : Entry) → has e.task xs ≡ false → place e.task (xs ++ (e ∷ [])) ≡ length xs
 place_last [] e h = rw (eq-eqb e.task e.task refl)
-place_last (x ∷ xs) e h =
-    let p = or_parts (x.task == e.task) (has e.task xs) h in
-    rw (p.0, place_last xs e p.1)
+place_last (x ∷ xs) e h = grind (arith, place_last xs e)
 
 pub code_push : (u : ℕ) (xs : List Entry) (e : Entry) → has u xs ≡ true → code_of u (xs ++ (e ∷ [])) ≡ code_of u xs
 code_push u [] e h = absurd (true≢false (sym h))
-code_push u (x ∷ xs) e h =
-    elim (cases_Bool (x.task == u)) [
-      | inl y ↦ rw y
-      | inr n ↦ let i = code_push u xs e (rw n at h) in rw (n, i)
-    ]
+code_push u (x ∷ xs) e h = grind (arith, code_push u xs e)
 
 pub code_last : (xs : List Entry) (e : Entry) → has e.task xs ≡ false → code_of e.task (xs ++ (e ∷ [])) ≡ e.code
 code_last [] e h = rw (eq-eqb e.task e.task refl)
-code_last (x ∷ xs) e h =
-    let p = or_parts (x.task == e.task) (has e.task xs) h in
-    rw (p.0, code_last xs e p.1)
+code_last (x ∷ xs) e h = grind (arith, code_last xs e)
 
 pub proper_push : (xs : List Entry) (e : Entry) → proper xs ≡ true → has e.task xs ≡ false → e.task < 64 → proper (xs ++ (e ∷ [])) ≡ true
 proper_push [] e p n l = rw (lt-ltb e.task 64 l)
-proper_push (x ∷ xs) e p n l =
-    let a = and_parts (nat_lt x.task 64) (not (has x.task xs) && proper xs) p in
-    let b = and_parts (not (has x.task xs)) (proper xs) a.1 in
-    let c = or_parts (x.task == e.task) (has e.task xs) n in
-    let d : nat_eq e.task x.task ≡ false = grind (arith, nat_tests) in
-    let f : has x.task (xs ++ (e ∷ [])) ≡ false = rw (has_push x.task xs e, not-true (has x.task xs) b.0, d) in
-    rw (a.0, f, proper_push xs e b.1 c.1 l)
+proper_push (x ∷ xs) e p n l = grind (arith, nat_tests, proper_push xs e, has_push x.task xs e)
 
 leader_push : (xs : List Entry) (e : Entry) → (length xs ≢ 0) → leader (xs ++ (e ∷ [])) ≡ leader xs
 leader_push [] e h = absurd (h refl)
@@ -120,42 +77,32 @@ leader_push (x ∷ xs) e h = refl
 
 leader_has : (t : ℕ) (xs : List Entry) → leader xs ≡ Some t → has t xs ≡ true
 leader_has t [] h = let z : ◌≡◌ {A = ℕ} 0 1 = cc in absurd (omega arith)
-leader_has t (x ∷ xs) h = let e : x.task ≡ t = cc in rw (eq-eqb x.task t e)
+leader_has t (x ∷ xs) h = grind (arith, nat_tests)
 
 leader_some : (t : ℕ) (xs : List Entry) → has t xs ≡ true → leader xs ≢ None
 leader_some t [] h n = true≢false (sym h)
-leader_some t (x ∷ xs) h n = let z : ◌≡◌ {A = ℕ} 0 1 = cc in omega arith
+leader_some t (x ∷ xs) h n = grind arith
 
 leader_first : (t : ℕ) (xs : List Entry) → leader xs ≡ Some t → place t xs ≡ 0
 leader_first t [] h = refl
-leader_first t (x ∷ xs) h = let e : x.task ≡ t = cc in rw (eq-eqb x.task t e)
+leader_first t (x ∷ xs) h = grind (arith, nat_tests)
 
 place_later : (t : ℕ) (xs : List Entry) → has t xs ≡ true → (leader xs ≢ Some t) → 1 ≤ place t xs
 place_later t [] h n = absurd (true≢false (sym h))
-place_later t (x ∷ xs) h n =
-    let ne : nat_eq x.task t ≡ false = ne_eqb x.task t (λ e. n (ap Some e)) in
-    rw ne (omega arith)
+place_later t (x ∷ xs) h n = grind (arith, nat_tests)
 
 -- the first leaves the line: it is gone, the others stay, with their codes and one place nearer
 leader_gone : (t : ℕ) (xs : List Entry) → proper xs ≡ true → leader xs ≡ Some t → has t (drop 1 xs) ≡ false
 leader_gone t [] p h = refl
-leader_gone t (x ∷ xs) p h =
-    let a = and_parts (nat_lt x.task 64) (not (has x.task xs) && proper xs) p in
-    let b = and_parts (not (has x.task xs)) (proper xs) a.1 in
-    let e : x.task ≡ t = cc in
-    rw e at (not-true (has x.task xs) b.0)
+leader_gone t (x ∷ xs) p h = grind (arith, nat_tests)
 
 has_rest : (t : ℕ) (xs : List Entry) → (leader xs ≢ Some t) → has t (drop 1 xs) ≡ has t xs
 has_rest t [] n = refl
-has_rest t (x ∷ xs) n = rw (ne_eqb x.task t (λ e. n (ap Some e)))
+has_rest t (x ∷ xs) n = grind (arith, nat_tests)
 
 rest_moves : (t : ℕ) (xs : List Entry) → proper xs ≡ true → has t (drop 1 xs) ≡ true → (place t xs ≡ suc (place t (drop 1 xs))) × (code_of t (drop 1 xs) ≡ code_of t xs)
 rest_moves t [] p h = absurd (true≢false (sym h))
-rest_moves t (x ∷ xs) p h =
-    let a = and_parts (nat_lt x.task 64) (not (has x.task xs) && proper xs) p in
-    let b = and_parts (not (has x.task xs)) (proper xs) a.1 in
-    let ne : nat_eq x.task t ≡ false = ne_eqb x.task t (λ e. both_ways (has t xs) (rw e at (not-true (has x.task xs) b.0)) h) in
-    (rw ne, rw ne)
+rest_moves t (x ∷ xs) p h = (grind (arith, nat_tests), grind (arith, nat_tests))
 
 -- ---- lines, one for each resource
 
@@ -188,10 +135,6 @@ kept_line m p n o q z r t e = record {
   covered = λ h. refl;
 }
 
-or_nothing : (b : Bool) → (b || false) ≡ b
-or_nothing true = refl
-or_nothing false = refl
-
 pub lined_joined : (m p n o : ℕ) (q z : ℕ → List Entry) (r t c : ℕ) → proper (q r) ≡ true → has t (q r) ≡ false → z r ≡ q r ++ (record { task = t; code = c } ∷ []) → ((k : ℕ) → (k ≢ r) → z k ≡ q k) → Joined (lined m p q) r t c (lined n o z)
 lined_joined m p n o q z r t c neat out e apart =
     let last : Entry = record { task = t; code = c } in
@@ -203,7 +146,7 @@ lined_joined m p n o q z r t c neat out e apart =
       alone = λ z0. let nil = nil_from_length (q r) (sym sized ∙ z0) in rw (e, nil);
       behind = λ some. rw e (leader_push (q r) last (λ nil. some (sized ∙ nil)));
       beside = λ u ne. record {
-        queued = rw (e, has_push u (q r) last, ne_eqb t u (λ s. ne (sym s))) (or_nothing (has u (q r)));
+        queued = rw (e, has_push u (q r) last, ne_eqb t u (λ s. ne (sym s))) (or-false (has u (q r)));
         code = λ h. rw e (code_push u (q r) last h);
         count = λ h. rw e (place_push u (q r) last h);
         covered = λ h. refl;

@@ -1,21 +1,21 @@
-ghost use Rattle.std.specs.Prelude.{◌≡◌, ℕ, ◌<◌, ◌≤◌, false, ◌&&◌, leb, replicate, if◌then◌else◌, nat_le, slice_index_or, refl};
-ghost use Rattle.orders.specs.Orders.{size, asked};
-ghost use Rattle.first_come.specs.Lines.{empty, fresh_line};
+ghost use Rattle.std.specs.Prelude.{◌≡◌, ℕ, ◌≤◌, false, length, replicate, slice_index_or, refl};
+ghost use Rattle.orders.specs.Orders.{size};
+ghost use Rattle.first_come.specs.Lines.{empty, fitting_places, fresh_line, waiting};
 ghost use Rattle.first_come.specs.First.{first_meaning, FirstAdmitted, FirstPassed, line_of};
 ghost use Rattle.first_come.specs.Lined.{lined_rules};
 ghost use Rattle.first_come.specs.Firsts.{neat_of, first_admits, first_passes};
 
 use crate::first::FirstCome;
-use crate::line::{Entry, Line};
+use crate::line::Line;
 use orders::{Order, OrderRefusal};
 
 // The places of a line for `width` cores that is to have so many: none where
 // one of the two numbers is out of range.
 fn fitting(width: u32, places: u32) -> u32
-    ensures told { result ≡ (if leb 1 width && (nat_le width 16 && (nat_le 1 places && nat_le places 64)) then places else 0) }
+    ensures told { result ≡ fitting_places width places }
     ensures few { result ≤ 64 }
 {
-    if 1 <= width && width <= 16 && 1 <= places && places <= 64 {
+    if (1..=16).contains(&width) && (1..=64).contains(&places) {
         places
     } else {
         0
@@ -27,7 +27,7 @@ impl FirstCome {
     // line. With other numbers it has no place at all.
     pub fn new(width: u32, places: u32) -> FirstCome
         ensures width { result.width ≡ width }
-        ensures places { result.places ≡ (if leb 1 width && (nat_le width 16 && (nat_le 1 places && nat_le places 64)) then places else 0) }
+        ensures places { result.places ≡ fitting_places width places }
         ensures nobody { (r t : ℕ) → (first_meaning result).queued r t ≡ false }
         ensures lines { result.lines ≡ replicate 32 fresh_line }
     {
@@ -35,39 +35,16 @@ impl FirstCome {
         FirstCome {
             width,
             places,
-            lines: [Line {
-                entries: [Entry { task: 0, code: 0 }; 64],
-                seats: [0; 64],
-                len: 0,
-            }; 32],
+            lines: Default::default(),
         }
     }
 
     // How many tasks are in line for a resource.
     fn length(&self, resource: u32) -> u32
-        requires { resource < 32 }
-        ensures long { result ≡ (slice_index_or self.now.lines resource empty).len }
+        ensures long { result ≡ length (waiting (slice_index_or self.now.lines resource empty)) }
         ensures sized { result ≡ size (first_meaning self.now) resource }
     {
-        self.lines[resource as usize].len
-    }
-
-    // The place of a task in line for a resource, or none.
-    fn find(&self, resource: u32, task: u32) -> Option<u32>
-        ensures { result ≡ asked ((first_meaning self.now).queued resource task) ((first_meaning self.now).count resource task) }
-    {
-        if resource >= 32 {
-            return None;
-        }
-        self.lines[resource as usize].find(task)
-    }
-
-    // The code of a task in line for a resource, or none.
-    fn coded(&self, resource: u32, task: u32) -> Option<u64>
-        ensures { result ≡ asked ((first_meaning self.now).queued resource task) ((first_meaning self.now).code resource task) }
-    {
-        let place = self.find(resource, task)?;
-        Some(self.lines[resource as usize].entries[place as usize].code)
+        self.lines.get(resource as usize).map_or(0, Line::len)
     }
 }
 
@@ -115,32 +92,25 @@ impl Order for FirstCome {
 
     // So many are ahead of the last in a full line.
     fn reach(&self) -> u32 {
-        if self.places == 0 { 0 } else { self.places - 1 }
+        self.places.saturating_sub(1)
     }
 
     // The first in line holds the resource.
     fn holder(&self, resource: u32) -> Option<u32> {
-        if resource >= 32 {
-            return None;
-        }
-        if self.length(resource) == 0 {
-            return None;
-        }
-        Some(self.lines[resource as usize].entries[0].task)
+        self.lines.get(resource as usize)?.first()
     }
 
     fn queued(&self, resource: u32, task: u32) -> bool {
-        self.find(resource, task).is_some()
+        self.count(resource, task).is_some()
     }
 
     fn code(&self, resource: u32, task: u32) -> Option<u64> {
-        self.coded(resource, task)
+        self.lines.get(resource as usize)?.code(task)
     }
 
     // Each task ahead in line holds the resource once before this one does.
     fn count(&self, resource: u32, task: u32) -> Option<u32> {
-        let ahead = self.find(resource, task)?;
-        Some(ahead)
+        self.lines.get(resource as usize)?.find(task)
     }
 
     // A line does not go by urgency, so nobody is covered.
@@ -167,9 +137,7 @@ impl Order for FirstCome {
         if resource >= 32 {
             return Err(OrderRefusal::Unknown);
         }
-        if self.length(resource) == 0 {
-            return Err(OrderRefusal::Empty);
-        }
+        self.holder(resource).ok_or(OrderRefusal::Empty)?;
         self.lines[resource as usize].leave();
         Ok(self.holder(resource))
     }

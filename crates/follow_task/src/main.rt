@@ -14,11 +14,13 @@ const RADIO: u32 = 0;
 
 const DIVERT_ARM: u32 = 2;
 
+// A task as people call it. The gate tells tasks by number, so an enum would need a
+// way back from each number.
 fn name(task: u32) -> &'static str {
     match task {
         0 => "frame camera",
         1 => "encoder",
-        2 => "divert arm",
+        DIVERT_ARM => "divert arm",
         _ => "safety stop",
     }
 }
@@ -55,6 +57,7 @@ fn ask(
     println!(rt;
         "{who} (task {task}) arrives at tick {arrival}, is due at tick {due}, and asks for the radio."
     )?;
+    // Both arms go on with work of their own: two closures would be no plainer.
     match gate.admit(RADIO, task, due) {
         Ok(()) => tell_standing(rt, gate, task),
         Err(_) => println!(rt; "  It is refused."),
@@ -63,12 +66,7 @@ fn ask(
 
 // Which of the four tasks wait in the gate.
 fn in_gate(gate: &Gate<FirstCome>) -> [bool; 4] {
-    [
-        gate.in_gate(RADIO, 0),
-        gate.in_gate(RADIO, 1),
-        gate.in_gate(RADIO, 2),
-        gate.in_gate(RADIO, 3),
-    ]
+    [0, 1, 2, 3].map(|task| gate.in_gate(RADIO, task))
 }
 
 // The holder lays the radio down; says who holds next, and who goes from the gate into the line.
@@ -87,8 +85,8 @@ fn pass(rt: HostRuntime, gate: &mut Gate<FirstCome>) -> io::Result<()> {
         Err(_) => println!(rt; "The pass is refused.")?,
     }
     let after = in_gate(gate);
-    for task in 0..4u32 {
-        if before[task as usize] && !after[task as usize] {
+    for (task, (waited, waits)) in (0..).zip(before.iter().zip(&after)) {
+        if *waited && !*waits {
             let who = name(task);
             println!(rt; "  {who}: goes from the gate into the line.")?;
         }

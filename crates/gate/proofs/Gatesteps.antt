@@ -1,83 +1,83 @@
 -- what the gate's code leaves
-use Rattle.std.proofs.Common.{◌≡◌, ℕ, ◌+◌, ◌*◌, ◌<◌, ◌≤◌, Bool, true, false, cond, not, ◌&&◌, eqb, ltb, List, length, get_or, set, replicate, is_some, Some, None, Ok, Err, Option, Result, sym, refl, ap, ◌∙◌, subst, inl, inr, arith}
+use Rattle.std.proofs.Common.{◌≡◌, ℕ, ◌<◌, true, false, not, ◌&&◌, ltb, List, length, get_or, set, replicate, is_some, unwrap_or, option_map, IfSome, ◌==◌, Some, None, Ok, Err, Option, Result, sym, refl, ap, ◌∙◌, subst, inl, inr, arith}
 use Rattle.std.proofs.lemmas.List.{get_or-replicate, get_or_past, length-replicate, get_or-set_same, get_or-set_other, length-set}
-use Rattle.std.proofs.lemmas.Bool.{and_parts, not-true, cases_lt, cases_eq, cases_Bool, true≢false, lt-ltb, or_parts}
+use Rattle.std.proofs.lemmas.Bool.{and_parts, cases_lt, cases_eq, cases_Bool, true≢false, lt-ltb, or_parts}
 use Rattle.orders.specs.declared.refusal.OrderRefusal.{OrderRefusal}
 use Rattle.orders.specs.declared.refusal.OrderRefusal.TheVariants.{Full}
+use Rattle.orders.specs.declared.rank.Rank.{Rank}
 use Rattle.orders.specs.declared.order.Order.{Ghosts}
 use Rattle.orders.specs.Services.{meaning, Lawful}
 use Rattle.gate.specs.declared.row.Row.{Row}
 use Rattle.gate.specs.declared.gate.Gate.{Gate}
 use Rattle.orders.specs.Orders.{Meaning, size, admit_answer}
-use Rattle.orders.specs.Gating.{idle, fit, inside, gated, shut}
-use Rattle.gate.specs.Gates.{no_row, fresh_rows, marked, noted, gate_meaning, Entered, Beside, GateAdmitted, Moved, GatePassed, Best}
+use Rattle.orders.specs.Gating.{idle, fit, inside, gated}
+use Rattle.gate.specs.Gates.{no_row, fresh_row, fresh_rows, slot, Put, marked, noted, gate_meaning, Entered, Beside, GateAdmitted, Moved, GatePassed, Best}
 use Rattle.gate.specs.Gates.Moves.{moved}
-use Rattle.orders.proofs.Counts.{tally_all, every_at}
+use Rattle.orders.specs.Counting.{ahead}
+use Rattle.orders.proofs.Ranks.{Leads}
+use Rattle.orders.proofs.Counts.{tally_all}
 use Rattle.orders.proofs.Answered.{admit_fine, pass_fine}
 use Rattle.orders.proofs.Gated.{inside_parts}
+use Rattle.orders.proofs.Fresh.{nobody, fresh}
 use Rattle.gate.specs.Gatelaws.{fit_parts, marked_bound, none_queued}
-
-pub get_or_blank : (n u : ℕ) → get_or (replicate n false) u false ≡ false
-get_or_blank n u = elim (cases_lt u n) [ inl b ↦ get_or-replicate n u false false b | inr b ↦ get_or_past (replicate n false) u false (simp length-replicate b) ]
-
-never : (a b : Bool) → (a && (b && false)) ≡ false
-never true true = refl
-never true false = refl
-never false true = refl
-never false false = refl
 
 -- ---- rows
 
-module _ (rows : List Row) (r : ℕ) (row : Row) (long : r < length rows) where
-  other_row : (q : ℕ) → (q ≡ r → ⊥) → get_or (set rows r row) q no_row ≡ get_or rows q no_row
-  other_row q ne = get_or-set_other rows r q row no_row ne
+module _ (rows next : List Row) (q u : ℕ) where
+  same_mark : slot next q u ≡ slot rows q u → marked next q u ≡ marked rows q u
+  same_mark e = ap (λ o. ltb q 32 && (ltb u 64 && is_some o)) e
 
-  this_row : get_or (set rows r row) r no_row ≡ row
-  this_row = get_or-set_same rows r row no_row long
+  same_code : slot next q u ≡ slot rows q u → noted next q u ≡ noted rows q u
+  same_code e = ap (λ o. unwrap_or o 0) e
+
+unmarked : (rows : List Row) (r u : ℕ) → slot rows r u ≡ None → marked rows r u ≡ false
+unmarked rows r u e = ap (λ o. ltb r 32 && (ltb u 64 && is_some o)) e ∙ grind arith
+
+-- the row of r is written
+module _ (rows : List Row) (r : ℕ) (row : Row) (long : r < length rows) where
+  other_slot : (q u : ℕ) → (q ≡ r → ⊥) → slot (set rows r row) q u ≡ slot rows q u
+  other_slot q u ne = ap (λ x. get_or x.waits u None) (get_or-set_other rows r q row no_row ne)
+
+  this_slot : (u : ℕ) → slot (set rows r row) r u ≡ get_or row.waits u None
+  this_slot u = ap (λ x. get_or x.waits u None) (get_or-set_same rows r row no_row long)
 
   pub beside_set : Beside rows r (set rows r row)
-  beside_set = record { marks = λ q u ne. rw (other_row q ne); codes = λ q u ne. rw (other_row q ne) }
-
-  pub mark_set : (u : ℕ) (b : Bool) → get_or row.waits u false ≡ b → marked (set rows r row) r u ≡ (ltb r 32 && (ltb u 64 && b))
-  mark_set u b e = rw (this_row, e)
-
-  pub unmarked_set : (u : ℕ) → get_or row.waits u false ≡ false → marked (set rows r row) r u ≡ false
-  unmarked_set u e = mark_set u false e ∙ never (ltb r 32) (ltb u 64)
-
-  pub kept_mark : (u : ℕ) → get_or row.waits u false ≡ get_or (get_or rows r no_row).waits u false → marked (set rows r row) r u ≡ marked rows r u
-  kept_mark u e = mark_set u _ e
-
-  pub code_set : (u : ℕ) → noted (set rows r row) r u ≡ get_or row.codes u 0
-  code_set u = rw this_row
-
-  pub entered_set : (t c : ℕ) → r < 32 → t < 64 → get_or row.waits t false ≡ true → get_or row.codes t 0 ≡ c → ((u : ℕ) → (u ≡ t → ⊥) → get_or row.waits u false ≡ get_or (get_or rows r no_row).waits u false) → ((u : ℕ) → (u ≡ t → ⊥) → get_or row.codes u 0 ≡ get_or (get_or rows r no_row).codes u 0) → Entered rows r t c (set rows r row)
-  entered_set t c rk tk mark code marks codes = record {
-    mark = mark_set t true mark ∙ rw (lt-ltb r 32 rk, lt-ltb t 64 tk);
-    code = code_set t ∙ code;
-    marks = λ q u ne. elim (cases_eq q r) [
-      | inl e ↦ subst (λ x. marked (set rows r row) x u ≡ marked rows x u) (sym e) (kept_mark u (marks u (ne e)))
-      | inr d ↦ beside_set.marks q u d
-    ];
-    codes = λ q u ne. elim (cases_eq q r) [
-      | inl e ↦ subst (λ x. noted (set rows r row) x u ≡ noted rows x u) (sym e) (code_set u ∙ codes u (ne e))
-      | inr d ↦ beside_set.codes q u d
-    ];
+  beside_set = record {
+    marks = λ q u ne. same_mark rows (set rows r row) q u (other_slot q u ne);
+    codes = λ q u ne. same_code rows (set rows r row) q u (other_slot q u ne);
   }
 
-held_none : (o : Option ℕ) → is_some o ≡ false → o ≡ None
-held_none None e = refl
-held_none (Some t) e = absurd (true≢false e)
+  pub cleared_set : row ≡ fresh_row → (u : ℕ) → marked (set rows r row) r u ≡ false
+  cleared_set e u = unmarked (set rows r row) r u (this_slot u ∙ ap (λ x. get_or x.waits u None) e ∙ fresh 64 None None refl u)
 
-each_row : (r t : ℕ) → get_or (get_or fresh_rows r no_row).waits t false ≡ false
-each_row r t =
-    let full : Row = record { waits = replicate 64 false; codes = replicate 64 0 } in
-    elim (cases_lt r 32) [
-      | inl b ↦ ap (λ x. get_or x.waits t false) (get_or-replicate 32 r full no_row b) ∙ get_or_blank 64 t
-      | inr b ↦ ap (λ x. get_or x.waits t false) (get_or_past (replicate 32 full) r no_row (simp length-replicate b))
+  module _ (t : ℕ) (o : Option ℕ) (p : Put (get_or rows r no_row) t o row) where
+    put_here : slot (set rows r row) r t ≡ o
+    put_here = this_slot t ∙ p.here
+
+    put_others : (q u : ℕ) → (q ≡ r → u ≡ t → ⊥) → slot (set rows r row) q u ≡ slot rows q u
+    put_others q u ne = elim (cases_eq q r) [
+      | inl e ↦ subst (λ x. slot (set rows r row) x u ≡ slot rows x u) (sym e) (this_slot u ∙ p.others u (ne e))
+      | inr d ↦ other_slot q u d
     ]
 
-unmarked : (v : Meaning) (r t : ℕ) → (marked fresh_rows r t && (eqb (size v r) v.width && true)) ≡ false
-unmarked v r t = rw (each_row r t, never (ltb r 32) (ltb t 64))
+  pub entered_set : (t c : ℕ) → r < 32 → t < 64 → Put (get_or rows r no_row) t (Some c) row → Entered rows r t c (set rows r row)
+  entered_set t c rk tk p =
+      let next = set rows r row in
+      let e = put_here t (Some c) p in
+      record {
+        mark = ap (λ o. ltb r 32 && (ltb t 64 && is_some o)) e ∙ rw (lt-ltb r 32 rk, lt-ltb t 64 tk);
+        code = ap (λ o. unwrap_or o 0) e;
+        marks = λ q u ne. same_mark rows next q u (put_others t (Some c) p q u ne);
+        codes = λ q u ne. same_code rows next q u (put_others t (Some c) p q u ne);
+      }
+
+-- in a new gate no slot is taken
+pub new_slot : (r t : ℕ) → slot fresh_rows r t ≡ None
+new_slot r t =
+    elim (cases_lt r 32) [
+      | inl b ↦ ap (λ x. get_or x.waits t None) (get_or-replicate 32 r fresh_row no_row b) ∙ fresh 64 None None refl t
+      | inr b ↦ ap (λ x. get_or x.waits t None) (get_or_past (replicate 32 fresh_row) r no_row (simp length-replicate b))
+    ]
 
 -- ---- admit
 
@@ -105,20 +105,20 @@ module _ {L : Type 0} (o : Ghosts L) (laws : Lawful o) (s : Gate L) where
       let n : v.queued r t ≡ false = rw y at new in
       rw y (admit_fine v r t (record { r_known = rk; t_known = tk; new = n; room = λ e. true≢false (sym (tally_all (v.queued r) 64 e t tk) ∙ n) }))
 
-  pub below_admit : (r t c : ℕ) (a : Result (Unit {0}) OrderRefusal) (z : L) (next : List Row) → r < 32 → t < 64 → (s.fresh && fit low) ≡ true → (gate_meaning o s).queued r t ≡ false → size low r < low.width → o.admitted s.lower r t c a z → Beside s.rows r next → ((u : ℕ) → marked next r u ≡ false) → GateAdmitted o s r t c a (after z next)
-  below_admit r t c a z next rk tk y new room h beside clear =
+  pub below_admit : (r t c : ℕ) (a : Result (Unit {0}) OrderRefusal) (z : L) (next : List Row) → r < 32 → t < 64 → (s.fresh && fit low) ≡ true → (gate_meaning o s).queued r t ≡ false → (size low r ≡ low.width → ⊥) → o.admitted s.lower r t c a z → Beside s.rows r next → ((u : ℕ) → marked next r u ≡ false) → GateAdmitted o s r t c a (after z next)
+  below_admit r t c a z next rk tk y new free h beside clear =
       let ok = fit_parts low (laws.rules s.lower) (and_parts s.fresh (fit low) y).1 in
       let out = (or_parts (low.queued r t) (inside low (marked s.rows) r t) (rw y at new)).0 in
-      let fine : a ≡ Ok tt = (laws.admitting s.lower r t c a z h).told ∙ admit_fine low r t (record { r_known = rk; t_known = tk; new = out; room = λ e. (let x = ok.exact in omega arith) }) in
+      let fine : a ≡ Ok tt = (laws.admitting s.lower r t c a z h).told ∙ admit_fine low r t (record { r_known = rk; t_known = tk; new = out; room = λ e. free (e ∙ ok.exact) }) in
       record {
         told = fine ∙ sym (open_answer r t rk tk y new);
         refused = λ e x. (let k : ◌≡◌ {A = ℕ} 0 1 = cc in absurd (omega arith));
         same = refl;
         below = λ x n. (h, beside, clear);
-        gate = λ x n. absurd (omega arith);
+        gate = λ x n. absurd (free n);
       }
 
-  pub gate_admit : (r t c : ℕ) (next : List Row) → r < 32 → t < 64 → (s.fresh && fit low) ≡ true → (gate_meaning o s).queued r t ≡ false → low.width ≤ size low r → Entered s.rows r t c next → GateAdmitted o s r t c (Ok tt) (after s.lower next)
+  pub gate_admit : (r t c : ℕ) (next : List Row) → r < 32 → t < 64 → (s.fresh && fit low) ≡ true → (gate_meaning o s).queued r t ≡ false → size low r ≡ low.width → Entered s.rows r t c next → GateAdmitted o s r t c (Ok tt) (after s.lower next)
   gate_admit r t c next rk tk y new full e = record {
     told = sym (open_answer r t rk tk y new);
     refused = λ e x. (let k : ◌≡◌ {A = ℕ} 0 1 = cc in absurd (omega arith));
@@ -141,32 +141,36 @@ module _ {L : Type 0} (o : Ghosts L) (laws : Lawful o) (s : Gate L) where
   held_known r h e = let m = open_held r h e in ((laws.rules s.lower).within r h ((laws.rules s.lower).held r h m.1)).1
 
   module _ (r h : ℕ) (rk : r < 32) (held : (gate_meaning o s).holder r ≡ Some h) (b : Result (Option ℕ) OrderRefusal) (mid : L) (p : o.passed s.lower r b mid) where
-    pub moved_pass : (t : ℕ) (one two : Row) (k : ℕ) (a : Result (Unit {0}) OrderRefusal) (z : L) (n : Option ℕ) → r < length s.rows → Best low s.rows r 64 (Some t)
-        → get_or one.waits h false ≡ false → ((u : ℕ) → (u ≡ h → ⊥) → get_or one.waits u false ≡ get_or (get_or s.rows r no_row).waits u false) → one.codes ≡ (get_or s.rows r no_row).codes
-        → get_or two.waits t false ≡ false → ((u : ℕ) → (u ≡ t → ⊥) → get_or two.waits u false ≡ get_or (get_or (set s.rows r one) r no_row).waits u false) → two.codes ≡ (get_or (set s.rows r one) r no_row).codes
-        → k ≡ noted (set (set s.rows r one) r two) r t → o.admitted mid r t k a z → n ≡ (gate_meaning o (after z (set (set s.rows r one) r two))).holder r
+    pub moved_pass : (t k : ℕ) (one two : Row) (a : Result (Unit {0}) OrderRefusal) (z : L) (n : Option ℕ) → r < length s.rows → Best low s.rows r 64 (Some t) → k ≡ noted s.rows r t
+        → Put (get_or s.rows r no_row) h None one → Put (get_or (set s.rows r one) r no_row) t None two
+        → o.admitted mid r t k a z → n ≡ (gate_meaning o (after z (set (set s.rows r one) r two))).holder r
         → GatePassed o s r (Ok n) (after z (set (set s.rows r one) r two))
-    moved_pass t one two k a z n long best m1 n1 c1 m2 n2 c2 code joins e =
+    moved_pass t k one two a z n long best code p1 p2 joins e =
         let rows = s.rows in
-        let next = set (set rows r one) r two in
-        let long2 : r < length (set rows r one) = simp length-set long in
-        let first = this_row rows r one long in
+        let mid-rows = set rows r one in
+        let next = set mid-rows r two in
+        let long2 : r < length mid-rows = simp length-set long in
         let b1 = beside_set rows r one long in
-        let b2 = beside_set (set rows r one) r two long2 in
-        let codes : (u : ℕ) → noted next r u ≡ noted rows r u = λ u. code_set (set rows r one) r two long2 u ∙ ap (λ x. get_or x u 0) (c2 ∙ ap (λ x. x.codes) first ∙ c1) in
-        let waits : (u : ℕ) → (u ≡ t → ⊥) → get_or two.waits u false ≡ get_or one.waits u false = λ u ne. n2 u ne ∙ ap (λ x. get_or x.waits u false) first in
-        let gone : get_or two.waits h false ≡ false = elim (cases_eq h t) [ inl d ↦ subst (λ x. get_or two.waits x false ≡ false) (sym d) m2 | inr ne ↦ waits h ne ∙ m1 ] in
+        let b2 = beside_set mid-rows r two long2 in
+        let stays : (u : ℕ) → (u ≡ h → ⊥) → (u ≡ t → ⊥) → slot next r u ≡ slot rows r u = λ u nh nt.
+        (put_others mid-rows r two long2 t None p2 r u (λ _ d. nt d) ∙ put_others rows r one long h None p1 r u (λ _ d. nh d)) in
+        let taken : slot next r t ≡ None = put_here mid-rows r two long2 t None p2 in
+        let gone : slot next r h ≡ None = elim (cases_eq h t) [
+          | inl d ↦ subst (λ x. slot next r x ≡ None) (sym d) taken
+          | inr ne ↦ put_others mid-rows r two long2 t None p2 r h (λ _ d. ne d) ∙ put_here rows r one long h None p1
+        ] in
         let who = (open_held r h held).1 in
         let same : (u : ℕ) → low.holder r ≡ Some u → h ≡ u = λ u x. (let y : Some h ≡ Some u = sym who ∙ x in cc) in
+        let other : (u : ℕ) → (low.holder r ≡ Some u → ⊥) → u ≡ h → ⊥ = λ u x d. x (who ∙ ap Some (sym d)) in
         let mv : Moved o s mid r t (after z next) = record {
           waits = best.1;
           best = λ u i. best.2 u (marked_bound rows r u (inside_parts low (marked rows) r u i).mark).1 i;
           answer = a;
-          joins = subst (λ x. o.admitted mid r t x a z) (code ∙ codes t) joins;
-          left = λ u x. unmarked_set (set rows r one) r two long2 u (subst (λ y. get_or two.waits y false ≡ false) (same u x) gone);
-          taken = unmarked_set (set rows r one) r two long2 t m2;
-          marks = λ u x ne. mark_set (set rows r one) r two long2 u (get_or (get_or rows r no_row).waits u false) (waits u ne ∙ n1 u (λ d. x (who ∙ ap Some (sym d))));
-          codes = codes;
+          joins = subst (λ x. o.admitted mid r t x a z) code joins;
+          left = λ u x. unmarked next r u (subst (λ y. slot next r y ≡ None) (same u x) gone);
+          taken = unmarked next r t taken;
+          marks = λ u x ne. same_mark rows next r u (stays u (other u x) ne);
+          codes = λ u x ne. same_code rows next r u (stays u (other u x) ne);
         } in
         record {
           told = ap Ok e ∙ sym (pass_fine (gate_meaning o s) r h ((gate_meaning o (after z next)).holder r) rk held);
@@ -175,30 +179,21 @@ module _ {L : Type 0} (o : Ghosts L) (laws : Lawful o) (s : Gate L) where
           left = λ k x. (mid, b, p, moved mv, record { marks = λ q u ne. b2.marks q u ne ∙ b1.marks q u ne; codes = λ q u ne. b2.codes q u ne ∙ b1.codes q u ne });
         }
 
+-- the best rank of the row, where the order below is full
+pub best_from : (v : Meaning) (rows : List Row) (r n : ℕ) (o : Option Rank) → (size v r == v.width) ≡ true → Leads (λ u. marked rows r u && not (v.queued r u)) (noted rows r) n o
+    → Best v rows r n (option_map (λ k. k.task) o) × IfSome o (λ k. k.code ≡ noted rows r k.task)
+best_from v rows r n None e h = (λ u l. rw e (h u l), tt)
+best_from v rows r n (Some b) e h = ((h.0, rw e h.1, λ u l i. subst (λ c. ahead (noted rows r u) u c b.task ≡ false) h.2 (h.3 u l (rw e at i))), h.2)
+
 -- a new gate has nobody
-pub new_empty : {L : Type 0} (o : Ghosts L) (laws : Lawful o) (l : L) (fresh : Bool) → fresh ≡ idle (meaning o l) → (r t : ℕ) → (gate_meaning o (record { lower = l; fresh = fresh; rows = fresh_rows })).queued r t ≡ false
-new_empty o laws l fresh e r t =
-    let v = meaning o l in
-    elim (cases_Bool (fresh && fit v)) [
+pub new_empty : {L : Type 0} (o : Ghosts L) (laws : Lawful o) (s : Gate L) → s.fresh ≡ idle (meaning o s.lower) → s.rows ≡ fresh_rows → (r t : ℕ) → (gate_meaning o s).queued r t ≡ false
+new_empty o laws s e f r t =
+    let v = meaning o s.lower in
+    elim (cases_Bool (s.fresh && fit v)) [
       | inr n ↦ rw n
       | inl y ↦
-          let all : idle v ≡ true = sym e ∙ (and_parts fresh (fit v) y).0 in
-          let out : v.queued r t ≡ false = elim (cases_Bool (v.queued r t)) [
-            | inr n ↦ n
-            | inl q ↦
-                let k = (laws.rules l).within r t q in
-                let h = held_none (v.holder r) (not-true (is_some (v.holder r)) (every_at (λ x. not (is_some (v.holder x))) 32 all r k.0)) in
-                absurd ((laws.rules l).some r t q h)
-          ] in
-          rw (y, out) (unmarked v r t)
+          let all : idle v ≡ true = sym e ∙ (and_parts s.fresh (fit v) y).0 in
+          let out = nobody v (laws.rules s.lower) all r t in
+          let bare : marked s.rows r t ≡ false = unmarked s.rows r t (ap (λ x. slot x r t) f ∙ new_slot r t) in
+          rw (y, out, bare)
     ]
-
--- the numbers of a new gate
-pub new_places : {L : Type 0} (o : Ghosts L) (l : L) (fresh : Bool) → fresh ≡ idle (meaning o l) → (gate_meaning o (record { lower = l; fresh = fresh; rows = fresh_rows })).places ≡ cond (idle (meaning o l) && fit (meaning o l)) 64 0
-new_places o l fresh e = rw e (elim (idle (meaning o l) && fit (meaning o l)) as (λ b. (cond b (gated (meaning o l) (marked fresh_rows) (noted fresh_rows)) (shut (o.width l))).places ≡ cond b 64 0) [ true ↦ refl | false ↦ refl ])
-
-pub new_reach : {L : Type 0} (o : Ghosts L) (l : L) (fresh : Bool) → fresh ≡ idle (meaning o l) → (gate_meaning o (record { lower = l; fresh = fresh; rows = fresh_rows })).reach ≡ cond (idle (meaning o l) && fit (meaning o l)) (2 * o.reach l + 1) 0
-new_reach o l fresh e = rw e (elim (idle (meaning o l) && fit (meaning o l)) as (λ b. (cond b (gated (meaning o l) (marked fresh_rows) (noted fresh_rows)) (shut (o.width l))).reach ≡ cond b (2 * o.reach l + 1) 0) [ true ↦ refl | false ↦ refl ])
-
-pub same_width : {L : Type 0} (o : Ghosts L) (s : Gate L) → (gate_meaning o s).width ≡ o.width s.lower
-same_width o s = elim (s.fresh && fit (meaning o s.lower)) as (λ b. (cond b (gated (meaning o s.lower) (marked s.rows) (noted s.rows)) (shut (o.width s.lower))).width ≡ o.width s.lower) [ true ↦ refl | false ↦ refl ]

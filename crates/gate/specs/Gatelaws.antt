@@ -1,5 +1,5 @@
 -- the gate, open or closed, is an order of service over any other
-use Rattle.std.specs.Prelude.{◌≡◌, ℕ, ◌+◌, ◌*◌, ◌<◌, true, false, ◌&&◌, List, get_or, Some, None, Ok, Err, Option, Result, ◌==◌, ◌≢◌, nat_le, nat_lt, slice_index_or, refl}
+use Rattle.std.specs.Prelude.{◌≡◌, ℕ, ◌+◌, ◌*◌, ◌<◌, true, false, ◌&&◌, List, Some, None, Ok, Err, Option, Result, ◌==◌, ◌≢◌, nat_le, nat_lt, is_some, refl}
 use Rattle.std.proofs.Common.{arith, sym, ◌∙◌, ap, subst, inl, inr}
 use Rattle.std.proofs.lemmas.Bool.{and_parts, cases_lt, cases_Bool, true≢false, eqb-true, leb-true, ltb-true, or_parts}
 use Rattle.orders.specs.declared.refusal.OrderRefusal.{OrderRefusal}
@@ -9,7 +9,7 @@ use Rattle.gate.specs.declared.row.Row.{Row}
 use Rattle.gate.specs.declared.gate.Gate.{Gate}
 use Rattle.orders.specs.Orders.{Meaning, Rules, Admits, Passes, Joined, Left, Fixed, size, admit_answer}
 use Rattle.orders.specs.Gating.{fit, inside, gated, shut}
-use Rattle.gate.specs.Gates.{no_row, marked, noted, gate_meaning, Beside, GateAdmitted, Moved, Moves, GatePassed}
+use Rattle.gate.specs.Gates.{slot, marked, noted, gate_meaning, Beside, GateAdmitted, Moved, Moves, GatePassed}
 use Rattle.gate.specs.Gates.Moves.{nobody, moved}
 use Rattle.orders.proofs.Counts.{tally_none}
 use Rattle.orders.proofs.Answered.{admit_ok, admit_fine, pass_ok, pass_fine}
@@ -27,8 +27,8 @@ fit_same v w f = rw (f.width, f.places, f.reach)
 
 pub marked_bound : (rows : List Row) → Bound (marked rows)
 marked_bound rows r t h =
-    let a = and_parts (nat_lt r 32) (nat_lt t 64 && slice_index_or (get_or rows r no_row).waits t false) h in
-    let b = and_parts (nat_lt t 64) (slice_index_or (get_or rows r no_row).waits t false) a.1 in
+    let a = and_parts (nat_lt r 32) (nat_lt t 64 && is_some (slot rows r t)) h in
+    let b = and_parts (nat_lt t 64) (is_some (slot rows r t)) a.1 in
     (ltb-true r 32 a.0, ltb-true t 64 b.0)
 
 pub none_queued : (m r : ℕ) → size (shut m) r ≡ 0

@@ -7,7 +7,7 @@ use orders::Order;
 #[derive(Drop)]
 pub struct Gate<L: Order> {
     pub(crate) lower: L,
-    // Nobody was queued below when the gate was made.
+    // Nobody was queued below when the gate was made: a fact, with no value beside it.
     pub(crate) fresh: bool,
     pub(crate) rows: [Row; 32],
 }

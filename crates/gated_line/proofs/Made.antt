@@ -8,8 +8,8 @@ use Rattle.first_come.specs.declared.first.FirstCome.{FirstCome}
 use Rattle.first_come.specs.Lines.{empty, fresh_line, waiting, leader}
 use Rattle.first_come.specs.First.{first_meaning}
 use Rattle.gate.specs.declared.gate.Gate.{Gate}
-use Rattle.gate.specs.Gates.{fresh_rows}
-use Rattle.gated_line.specs.GatedLine.{Empty}
+use Rattle.gate.specs.Gates.{gate_meaning, fresh_rows}
+use Rattle.gated_line.specs.GatedLine.{line_order, Empty}
 
 -- a width from 1 to 16 is a number of places too
 places_of : (m : ℕ) → cond (leb 1 m && (leb m 16 && (leb 1 m && leb m 64))) m 0 ≡ cond (leb 1 m && leb m 16) m 0
@@ -35,26 +35,29 @@ fit_new s m w p =
     shut : (a b c d : Bool) → (a && b) ≡ false → (a && (b && (c && d))) ≡ false
     shut a b c d n = grind arith
 
--- what the two makers make
-module _ (l : FirstCome) (m : ℕ) (w : l.width ≡ m) (p : l.places ≡ cond (leb 1 m && (leb m 16 && (leb 1 m && leb m 64))) m 0) (n : l.lines ≡ replicate 32 fresh_line) where
+-- a gate g as it is made before a line l
+module _ (g : Gate FirstCome) (l : FirstCome) (m : ℕ) (below : g.lower ≡ l) (w : l.width ≡ m) (p : l.places ≡ cond (leb 1 m && (leb m 16 && (leb 1 m && leb m 64))) m 0) (n : l.lines ≡ replicate 32 fresh_line) where
   fitted : l.places ≡ cond (leb 1 m && leb m 16) m 0
   fitted = p ∙ places_of m
 
-  pub made_empty : (g : Gate FirstCome) → g.lower ≡ l → g.fresh ≡ idle (first_meaning l) → g.rows ≡ fresh_rows → Empty m g
-  made_empty g e f r = record {
-    width = ap (λ x. x.width) e ∙ w;
-    places = ap (λ x. x.places) e ∙ fitted;
-    lines = ap (λ x. x.lines) e ∙ n;
+  opened : (idle (first_meaning l) && fit (first_meaning l)) ≡ (leb 1 m && leb m 16)
+  opened = rw (idle_new l n) (fit_new l m w fitted)
+
+  pub made_empty : g.fresh ≡ idle (first_meaning l) → g.rows ≡ fresh_rows → Empty m g
+  made_empty f r = record {
+    width = ap (λ x. x.width) below ∙ w;
+    places = ap (λ x. x.places) below ∙ fitted;
+    lines = ap (λ x. x.lines) below ∙ n;
     fresh = f ∙ idle_new l n;
     rows = r;
   }
 
-  pub made_open : (idle (first_meaning l) && fit (first_meaning l)) ≡ (leb 1 m && leb m 16)
-  made_open = rw (idle_new l n) (fit_new l m w fitted)
+  pub made_places : (gate_meaning line_order g).places ≡ cond (idle (first_meaning l) && fit (first_meaning l)) 64 0 → (gate_meaning line_order g).places ≡ cond (leb 1 m && leb m 16) 64 0
+  made_places e = e ∙ ap (λ b. cond b 64 0) opened
 
-  pub made_reach : cond (idle (first_meaning l) && fit (first_meaning l)) (2 * (l.places - 1) + 1) 0 ≡ cond (leb 1 m && leb m 16) (2 * m - 1) 0
-  made_reach =
-      ap (λ b. cond b (2 * (l.places - 1) + 1) 0) made_open ∙ elim (cases_Bool (leb 1 m && leb m 16)) [
+  pub made_reach : (gate_meaning line_order g).reach ≡ cond (idle (first_meaning l) && fit (first_meaning l)) (2 * (l.places - 1) + 1) 0 → (gate_meaning line_order g).reach ≡ cond (leb 1 m && leb m 16) (2 * m - 1) 0
+  made_reach e =
+      e ∙ ap (λ b. cond b (2 * (l.places - 1) + 1) 0) opened ∙ elim (cases_Bool (leb 1 m && leb m 16)) [
         | inl y ↦
             let a = and_parts (leb 1 m) (leb m 16) y in
             let q : l.places ≡ m = fitted ∙ rw y in

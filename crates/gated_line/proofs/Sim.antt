@@ -1,5 +1,5 @@
 -- the gate over first-come at resource 0, as two lists
-use Rattle.std.proofs.Common.{◌≡◌, ℕ, ◌+◌, ◌-◌, ◌*◌, ◌<◌, Bool, true, false, cond, not, ◌&&◌, ◌||◌, eqb, ltb, leb, List, [], ◌∷◌, ◌++◌, length, get_or, drop, replicate, Some, Ok, Option, Result, sym, refl, ap, ◌∙◌, subst, inl, inr, arith}
+use Rattle.std.proofs.Common.{◌≡◌, ℕ, ◌+◌, ◌-◌, ◌*◌, ◌<◌, Bool, true, false, cond, not, ◌&&◌, ◌||◌, eqb, ltb, leb, List, [], ◌∷◌, ◌++◌, length, drop, is_some, Some, Ok, Option, Result, sym, refl, ap, ◌∙◌, subst, inl, inr, arith}
 use Rattle.std.proofs.lemmas.Bool.{and_parts, or_cases, or_parts, cases_eq, cases_Bool, ltb-true, eqb-true, eq-eqb, ne_eqb, true≢false}
 use Rattle.orders.specs.declared.refusal.OrderRefusal.{OrderRefusal}
 use Rattle.first_come.specs.declared.line.Entry.{Entry}
@@ -11,25 +11,18 @@ use Rattle.first_come.specs.First.{line_of, first_meaning, FirstAdmitted, FirstP
 use Rattle.orders.specs.Services.{Lawful}
 use Rattle.orders.specs.Gating.{fit, inside}
 use Rattle.gate.specs.declared.gate.Gate.{Gate}
-use Rattle.gate.specs.Gates.{marked, noted, gate_meaning, in_gate, GateAdmitted, GatePassed, Moves}
+use Rattle.gate.specs.Gates.{fresh_rows, marked, noted, gate_meaning, in_gate, GateAdmitted, GatePassed, Moves}
 use Rattle.gate.specs.Gates.Moves.{nobody, moved}
 use Rattle.orders.proofs.Answered.{pass_fine}
 use Rattle.first_come.specs.Lined.{has_push, code_push, code_last, lined_rules}
 use Rattle.first_come.specs.Firsts.{neat_of, first_admits, first_passes}
-use Rattle.orders.proofs.Gated.{inside_parts, inside_from}
-use Rattle.gate.proofs.Gatesteps.{open_answer, get_or_blank}
+use Rattle.orders.proofs.Gated.{or_never, inside_parts, inside_from, some_same}
+use Rattle.gate.proofs.Gatesteps.{open_answer, new_slot}
 use Rattle.gated_line.specs.GatedLine.{line_order, Empty}
 use Rattle.gated_line.proofs.Lines.{Lined, line_size, line_admit, line_new}
 
 abbrev pub entry : ℕ → ℕ → Entry
 entry t c = record { task = t; code = c }
-
-some_same : (a b : ℕ) → Some a ≡ Some b → a ≡ b
-some_same a b e = cc
-
-or_never : (b : Bool) → (b || false) ≡ b
-or_never true = refl
-or_never false = refl
 
 abbrev pub without : ℕ → List Entry → List Entry
 without b [] = []
@@ -205,7 +198,10 @@ module _ {g : Gate FirstCome} {m : ℕ} {x : Entry} {xs ys : List Entry} (s : Si
           ];
           codes = λ u y. elim (cases_eq u b) [
             | inl e ↦ absurd (true≢false (sym y ∙ subst (λ v. has v (without b ys) ≡ false) (sym e) (lacks_without b ys)))
-            | inr ne ↦ mv.codes u ∙ s.codes u (sym (has_without u b ys ne) ∙ y) ∙ sym (code_without u b ys ne)
+            | inr ne ↦
+                let before : has u ys ≡ true = sym (has_without u b ys ne) ∙ y in
+                let nh : u ≡ x.task → ⊥ = λ e. true≢false (sym before ∙ ap (λ v. has v ys) e ∙ gone) in
+                mv.codes u (λ e. nh (some_same u x.task (sym e ∙ first_held))) (λ e. ne (e ∙ same)) ∙ s.codes u before ∙ sym (code_without u b ys ne)
           ];
         }
 
@@ -213,8 +209,8 @@ module _ {g : Gate FirstCome} {m : ℕ} {x : Entry} {xs ys : List Entry} (s : Si
     pub sim_moved : Sim z m (xs ++ (entry b (code_of b ys) ∷ [])) (without b ys)
     sim_moved = let d = parts in best_moves d.0 (tail d.0 d.1 d.2) d.3
 
-fresh_mark : (u : ℕ) → (ltb u 64 && get_or (replicate 64 false) u false) ≡ false
-fresh_mark u = rw (get_or_blank 64 u) (elim (ltb u 64) as (λ b. (b && false) ≡ false) [ true ↦ refl | false ↦ refl ])
+fresh_mark : (u : ℕ) → marked fresh_rows 0 u ≡ false
+fresh_mark u = ap (λ o. ltb u 64 && is_some o) (new_slot 0 u) ∙ elim (ltb u 64) as (λ b. (b && false) ≡ false) [ true ↦ refl | false ↦ refl ]
 
 -- ---- questions
 
@@ -250,16 +246,13 @@ module _ {g : Gate FirstCome} {m : ℕ} {xs ys : List Entry} (s : Sim g m xs ys)
 
   -- a task in line below is not in the gate
   pub sim_out : {o : Bool} (t : ℕ) → has t xs ≡ true → o ≡ in_gate line_order g 0 t → o ≡ false
-  sim_out t y e = e ∙ rw (is_open s w, s.below.line, y) (never (marked g.rows 0 t) (eqb (size (first_meaning g.lower) 0) g.lower.width))
-    where
-      never : (a b : Bool) → (a && (b && false)) ≡ false
-      never a b = grind arith
+  sim_out t y e = e ∙ rw (is_open s w, s.below.line, y) (grind arith)
 
 -- a new gate
 pub sim_new : {g : Gate FirstCome} {m : ℕ} → Empty m g → (leb 1 m && leb m 16) ≡ true → Sim g m [] []
 sim_new e w = record {
   fresh = e.fresh;
   below = line_new e.width (e.places ∙ rw w) e.lines;
-  marks = λ u. rw e.rows (fresh_mark u);
+  marks = λ u. ap (λ rows. marked rows 0 u) e.rows ∙ fresh_mark u;
   codes = λ u y. absurd (true≢false (sym y));
 }

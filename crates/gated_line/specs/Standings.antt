@@ -1,15 +1,11 @@
 -- Where a task stands at a gate
-use Rattle.std.specs.Prelude.{ℕ, Bool, false, cond, Some, None, Option, ◌==◌}
+use Rattle.std.specs.Prelude.{ℕ, cond}
 use Rattle.orders.specs.declared.order.Order.{Ghosts}
+use Rattle.orders.specs.Orders.{is_it}
 use Rattle.gate.specs.declared.gate.Gate.{Gate}
 use Rattle.gate.specs.Gates.{gate_meaning, in_gate}
 use Rattle.gated_line.specs.declared.place.Standing.{Standing}
 use Rattle.gated_line.specs.declared.place.Standing.TheVariants.{Away, Holds, Below, InGate, Covered}
-
--- t is the task named, if there is one
-abbrev pub is_it : Option ℕ → ℕ → Bool
-is_it None t = false
-is_it (Some h) t = h == t
 
 -- not queued; or holding; or waiting below, or in the gate, covered or not, each with the count
 abbrev pub standing_of : {L : Type 0} → Ghosts L → Gate L → ℕ → ℕ → Standing

@@ -12,16 +12,13 @@ pub fn where_stands<L: Order>(gate: &Gate<L>, resource: u32, task: u32) -> Stand
     let Some(count) = gate.count(resource, task) else {
         return Standing::Away;
     };
-    if let Some(holder) = gate.holder(resource) {
-        if holder == task {
-            return Standing::Holds;
-        }
+    if gate.holder(resource) == Some(task) {
+        Standing::Holds
+    } else if !gate.in_gate(resource, task) {
+        Standing::Below(count)
+    } else if gate.covered(resource, task) {
+        Standing::Covered(count)
+    } else {
+        Standing::InGate(count)
     }
-    if !gate.in_gate(resource, task) {
-        return Standing::Below(count);
-    }
-    if gate.covered(resource, task) {
-        return Standing::Covered(count);
-    }
-    Standing::InGate(count)
 }

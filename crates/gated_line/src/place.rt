@@ -1,5 +1,5 @@
 // Where a task stands with respect to a resource, with its count where it waits.
-#[derive(Clone, Copy)]
+#[derive(Clone, Copy, Debug, PartialEq, Eq)]
 pub enum Standing {
     // It is not queued.
     Away,

@@ -84,6 +84,11 @@ pub lead_for : (j : Jobs) (k : ℕ) → RunsFor j k (lead j k)
 unfolding lead RunsFor
 lead_for j k = elim (best_from j.code (λ i. lends (j.state k) (j.state i)) k 64) [ inl e ↦ inl e | inr e ↦ inr (lends_parts _ _ e.1) ]
 
+-- the job that a ready or holding job runs for is pending
+pub lead_pending : (j : Jobs) (k : ℕ) → active (j.state k) ≡ true → pending (j.state (lead j k)) ≡ true
+unfolding RunsFor
+lead_pending j k a = elim (lead_for j k) [ inl e ↦ rw e (active_pending (j.state k) a) | inr e ↦ rw e.2 ]
+
 module _ (j : Jobs) (formed : Formed j) where
   -- no two jobs run for the same one
   lead_one : (h k i : ℕ) → active (j.state h) ≡ true → active (j.state k) ≡ true → RunsFor j h i → RunsFor j k i → h ≡ k
@@ -103,16 +108,11 @@ module _ (j : Jobs) (formed : Formed j) where
   lead_best i k (inl e) = rw e (best_first j.code _ k 64)
   lead_best i k (inr e) = best_all j.code _ k 64 i (formed.inside i (rw e.2)) (rw (e.1, e.2) (grind (arith, nat_tests)))
 
-  -- the job that a ready or holding job runs for is pending
-  lead_pending : (k : ℕ) → active (j.state k) ≡ true → pending (j.state (lead j k)) ≡ true
-  unfolding RunsFor
-  lead_pending k a = elim (lead_for j k) [ inl e ↦ rw e (active_pending (j.state k) a) | inr e ↦ rw e.2 ]
-
   -- k, which runs for i, is in the running set where i has fewer than m pending jobs ahead
   runs_for : (m i k : ℕ) → active (j.state k) ≡ true → RunsFor j k i → demand j i < m → running j m k ≡ true
   unfolding demand running
   runs_for m i k a l d =
-      let into : (h : ℕ) → h < 64 → precedes j h k ≡ true → (lead j h < 64) × ((pending (j.state (lead j h)) && ahead j.code (lead j h) i) ≡ true) = λ h b t. (let p = and_parts _ _ t in let q = lead_pending h p.0 in (formed.inside _ q, and_from _ _ q (ahead_past j.code _ _ _ p.1 (lead_best i k l)))) in
+      let into : (h : ℕ) → h < 64 → precedes j h k ≡ true → (lead j h < 64) × ((pending (j.state (lead j h)) && ahead j.code (lead j h) i) ≡ true) = λ h b t. (let p = and_parts _ _ t in let q = lead_pending j h p.0 in (formed.inside _ q, and_from _ _ q (ahead_past j.code _ _ _ p.1 (lead_best i k l)))) in
       let one : (g h : ℕ) → precedes j g k ≡ true → precedes j h k ≡ true → lead j g ≡ lead j h → g ≡ h = λ g h s t e. distinct g h (and_parts _ _ s).0 (and_parts _ _ t).0 e in
       let few = tally_into (lead j) 64 (λ h. precedes j h k) 64 (λ h. pending (j.state h) && ahead j.code h i) into one in
       and_from _ _ a (lt-ltb _ m (omega arith))

@@ -1,2 +1,4 @@
 pub mod Ranks
 pub mod Jobs
+pub mod Powers
+pub mod States

@@ -2,10 +2,12 @@
 
 #![tactic(auto)]
 
+mod members;
 mod number;
 mod stands;
 mod state;
 
-pub use number::{ResourceNo, TaskNo};
+pub use members::power_sum;
+pub use number::{Number, ResourceNo, TaskNo};
 pub use stands::running_set_stands;
 pub use state::TaskState;

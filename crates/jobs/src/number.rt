@@ -1,55 +1,34 @@
 ghost use Rattle.std.specs.Prelude.{◌≡◌, ◌<◌, ◌≤◌, MatchOption};
 
-// The number of a task: there are 64.
-#[derive(Clone, Copy)]
-pub struct TaskNo {
+// A number below N: a task's or a resource's.
+#[derive(Clone, Copy, Debug, PartialEq, Eq)]
+pub struct Number<const N: u32> {
     number: u32,
-    ghost below: { number < 64 },
+    ghost below: { number < N },
 }
 
-impl TaskNo {
-    // The task of that number, if there is one.
-    pub fn new(n: u32) -> Option<TaskNo>
-        ensures { MatchOption result (64 ≤ n) (λ t. t.number ≡ n) }
-    {
-        if n < 64 {
-            Some(TaskNo { number: n })
-        } else {
-            None
-        }
-    }
-
-    // Its number.
-    pub fn get(self) -> u32
-        ensures { result ≡ self.number }
-    {
-        self.number // below 64
-    }
-}
+// The number of a task: there are 64.
+pub type TaskNo = Number<64>;
 
 // The number of a resource: there are 32.
-#[derive(Clone, Copy)]
-pub struct ResourceNo {
-    number: u32,
-    ghost below: { number < 32 },
-}
+pub type ResourceNo = Number<32>;
 
-impl ResourceNo {
-    // The resource of that number, if there is one.
-    pub fn new(n: u32) -> Option<ResourceNo>
-        ensures { MatchOption result (32 ≤ n) (λ q. q.number ≡ n) }
+impl<const N: u32> Number<N> {
+    // The number itself, if there is such a task or resource. An option, since an error
+    // of `TryFrom` would say nothing more.
+    pub fn new(n: u32) -> Option<Number<N>>
+        ensures { MatchOption result (N ≤ n) (λ it. it.number ≡ n) }
     {
-        if n < 32 {
-            Some(ResourceNo { number: n })
+        if n < N {
+            Some(Number { number: n })
         } else {
             None
         }
     }
 
-    // Its number.
     pub fn get(self) -> u32
-        ensures { result ≡ self.number }
+        ensures { result ≡ self.entry.number }
     {
-        self.number // below 32
+        self.number
     }
 }

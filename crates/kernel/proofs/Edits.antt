@@ -65,7 +65,7 @@ module _ (b z : Board) (t : ℕ) (x : TaskRecord) (w : Put b t x z) where
   turned_view o s e = λ i. record {
     now = w.now i;
     jobs = record {
-      state = (edit (λ y. y.state) (row b) (row z) t x w.rows ∙ ap (λ y. put (jobs_of b.rows).state t y.state) e) i;
+      state = (edit (λ y. y.state) (row b) (row z) t x w.rows ∙ ap (λ y. put (jobs_of b.table.rows).state t y.state) e) i;
       code = keep (λ y. y.code) (row b) (row z) t x w.rows (ap (λ y. y.code) e) i;
     };
     resource = keep (λ y. y.resource) (row b) (row z) t x w.rows (ap (λ y. y.resource) e) i;
@@ -78,12 +78,12 @@ module _ (b z : Board) (t : ℕ) (x : TaskRecord) (w : Put b t x z) where
   }
 
   -- a job arrived
-  pub begun_view : {S D : Type 0} (k : Kernel S D) (o : S) (d : D) (c : ℕ) → x ≡ begun (row b t) c → c ≡ k.key d b.now → view z o ≡ arrive_state k (view b o) t d
+  pub begun_view : {S D : Type 0} (k : Kernel S D) (o : S) (d : D) (c : ℕ) → x ≡ begun (row b t) c → c ≡ k.key d b.ticks → view z o ≡ arrive_state k (view b o) t d
   begun_view k o d c e q = λ i. record {
     now = w.now i;
     jobs = record {
-      state = (edit (λ y. y.state) (row b) (row z) t x w.rows ∙ ap (λ y. put (jobs_of b.rows).state t y.state) e) i;
-      code = (edit (λ y. y.code) (row b) (row z) t x w.rows ∙ ap (λ n. put (jobs_of b.rows).code t n) (ap (λ y. y.code) e ∙ q)) i;
+      state = (edit (λ y. y.state) (row b) (row z) t x w.rows ∙ ap (λ y. put (jobs_of b.table.rows).state t y.state) e) i;
+      code = (edit (λ y. y.code) (row b) (row z) t x w.rows ∙ ap (λ n. put (jobs_of b.table.rows).code t n) (ap (λ y. y.code) e ∙ q)) i;
     };
     resource = keep (λ y. y.resource) (row b) (row z) t x w.rows (ap (λ y. y.resource) e) i;
     serial = keep (λ y. y.serial) (row b) (row z) t x w.rows (ap (λ y. y.serial) e) i;
@@ -99,7 +99,7 @@ module _ (b z : Board) (t : ℕ) (x : TaskRecord) (w : Put b t x z) where
   asked_view k o q r n s e p c = λ i. record {
     now = w.now i;
     jobs = record {
-      state = (edit (λ y. y.state) (row b) (row z) t x w.rows ∙ ap (put (jobs_of b.rows).state t) (ap (λ y. y.state) e ∙ p)) i;
+      state = (edit (λ y. y.state) (row b) (row z) t x w.rows ∙ ap (put (jobs_of b.table.rows).state t) (ap (λ y. y.state) e ∙ p)) i;
       code = keep (λ y. y.code) (row b) (row z) t x w.rows (ap (λ y. y.code) e) i;
     };
     resource = (edit (λ y. y.resource) (row b) (row z) t x w.rows ∙ ap (λ y. put (view b o).resource t y.resource) e) i;
@@ -135,7 +135,7 @@ module _ {S D : Type 0} (k : Kernel S D) (b z : Board) (w : Ticked b z) (o : S) 
   task_same field same false x = refl
 
   rest : {A : Type 0} (field : TaskRecord → A) → ((x : TaskRecord) → field (ticked true x) ≡ field x) → ◌≡◌ {A = ℕ → A} (λ t. field (row z t)) (λ t. field (row b t))
-  rest field same = fun_ext (λ t. ap field (w.rows t) ∙ task_same field same (blocked (jobs_of b.rows) b.cores t) (row b t))
+  rest field same = fun_ext (λ t. ap field (w.rows t) ∙ task_same field same (blocked (jobs_of b.table.rows) b.cores t) (row b t))
 
   lost_by : (c : Bool) (x : TaskRecord) → (ticked c x).blocked ≡ cond c (suc x.blocked) x.blocked
   lost_by true x = refl
@@ -156,9 +156,9 @@ module _ {S D : Type 0} (k : Kernel S D) (b z : Board) (w : Ticked b z) (o : S) 
     resource = rest (λ y. y.resource) (λ x. refl) i;
     serial = rest (λ y. y.serial) (λ x. refl) i;
     told = rest (λ y. y.told) (λ x. refl) i;
-    lost = fun_ext (λ t. ap (λ y. y.blocked) (w.rows t) ∙ lost_by (blocked (jobs_of b.rows) b.cores t) (row b t) ∙ ap (λ m. cond (blocked (jobs_of b.rows) m t) (suc (row b t).blocked) (row b t).blocked) (sym e)) i;
-    used = fun_ext (λ r. ap (λ y. y.used) (w.holds r) ∙ used_by (busy (jobs_of b.rows) b.cores r) (hold b r) ∙ ap (λ m. cond (busy (jobs_of b.rows) m r) (suc (hold b r).used) (hold b r).used) (sym e)) i;
-    longest = fun_ext (λ r. ap (λ y. y.longest) (w.holds r) ∙ longest_by (busy (jobs_of b.rows) b.cores r) (hold b r) ∙ ap (λ m. cond (busy (jobs_of b.rows) m r) (max (hold b r).longest (suc (hold b r).used)) (hold b r).longest) (sym e)) i;
+    lost = fun_ext (λ t. ap (λ y. y.blocked) (w.rows t) ∙ lost_by (blocked (jobs_of b.table.rows) b.cores t) (row b t) ∙ ap (λ m. cond (blocked (jobs_of b.table.rows) m t) (suc (row b t).blocked) (row b t).blocked) (sym e)) i;
+    used = fun_ext (λ r. ap (λ y. y.used) (w.holds r) ∙ used_by (busy (jobs_of b.table.rows) b.cores r) (hold b r) ∙ ap (λ m. cond (busy (jobs_of b.table.rows) m r) (suc (hold b r).used) (hold b r).used) (sym e)) i;
+    longest = fun_ext (λ r. ap (λ y. y.longest) (w.holds r) ∙ longest_by (busy (jobs_of b.table.rows) b.cores r) (hold b r) ∙ ap (λ m. cond (busy (jobs_of b.table.rows) m r) (max (hold b r).longest (suc (hold b r).used)) (hold b r).longest) (sym e)) i;
     order = o;
   }
 

@@ -1,6 +1,7 @@
 -- a list of calls as one history
-use Rattle.std.proofs.Common.{◌≡◌, ℕ, ◌+◌, ◌<◌, ◌≤◌, cond, List, [], ◌∷◌, ◌++◌, reverse, length, get_or, take, Ok, Err, Result, sym, refl, ap, ◌∙◌, subst, arith}
+use Rattle.std.proofs.Common.{◌≡◌, ℕ, ◌+◌, ◌<◌, ◌≤◌, Bool, true, false, cond, List, [], ◌∷◌, ◌++◌, reverse, length, get_or, take, Ok, Err, Result, sym, refl, ap, ◌∙◌, subst, arith}
 use Rattle.std.proofs.lemmas.List.{reverse-append, take_more, take_all, length_push}
+use Rattle.std.specs.Result.{is_ok}
 use Rattle.orders.specs.declared.order.Order.{Ghosts}
 use Rattle.keys.specs.declared.kind.KeyKind
 use Rattle.runs.specs.declared.call.Call.{Call}
@@ -12,7 +13,7 @@ use Rattle.runs.specs.Steps.{Facts, Step, Leads, kernel_of}
 use Rattle.longest.specs.Longest.{call_of, calls, accepted}
 use Rattle.kernel.specs.declared.kernel.Kernel.{Kernel}
 use Rattle.kernel.specs.Views.{facts_of, state_of, noted}
-use Rattle.kernel.specs.Promises.{Counted, one_if_accepted, how_many_accepted, Holds, Ran}
+use Rattle.kernel.specs.Promises.{Took, how_many_accepted, Holds, Ran}
 
 -- the call of the event that a call and its answer make is that call
 pub noted_call : {D : Type 0} (c : Call D) (a : Result Accepted Refusal) → call_of (noted c a) ≡ c
@@ -27,7 +28,7 @@ noted_call (Finish t) (Err e) = refl
 noted_call Tick (Ok a) = refl
 noted_call Tick (Err e) = refl
 
-noted_accepted : {D : Type 0} (c : Call D) (a : Result Accepted Refusal) → cond (accepted (noted c a)) 1 0 ≡ one_if_accepted a
+noted_accepted : {D : Type 0} (c : Call D) (a : Result Accepted Refusal) → accepted (noted c a) ≡ is_ok a
 noted_accepted (Arrive t d) (Ok a) = refl
 noted_accepted (Arrive t d) (Err e) = refl
 noted_accepted (Request t r) (Ok a) = refl
@@ -52,23 +53,22 @@ module _ {S K D Y : Type 0} (o : Ghosts S) (kind : KeyKind.Ghosts K D Y) (k : Ke
   pub sofar_none : (list : List (Call D)) → Sofar o kind k (take 0 list) 0 k
   sofar_none list = record { history = []; listed = refl; counted = refl; facts = refl; steps = Leads.none; few = omega arith }
 
-  one_most : (a : Result Accepted Refusal) → one_if_accepted a ≤ 1
-  one_most (Ok x) = omega arith
-  one_most (Err e) = omega arith
+  one_most : (b : Bool) → cond b 1 0 ≤ 1
+  one_most true = omega arith
+  one_most false = omega arith
 
   -- one call more
-  pub sofar_more : (list : List (Call D)) (i n x : ℕ) (mid z : Kernel S K D Y) (c : Call D) → i < length list → c ≡ get_or list i c → Sofar o kind k (take i list) n mid → Counted o kind mid c x z → Sofar o kind k (take (i + 1) list) (n + x) z
-  sofar_more list i n x mid z c l is s t =
-      let a = t.answer in
+  pub sofar_more : (list : List (Call D)) (i n x : ℕ) (mid z : Kernel S K D Y) (c : Call D) (a : Result Accepted Refusal) → i < length list → c ≡ get_or list i c → Sofar o kind k (take i list) n mid → Took o kind mid c a z → x ≡ n + cond (is_ok a) 1 0 → Sofar o kind k (take (i + 1) list) x z
+  sofar_more list i n x mid z c a l is s t count =
       let last : take (i + 1) list ≡ take i list ++ (c ∷ []) = take_more list i c l ∙ ap (λ y. take i list ++ (y ∷ [])) (sym is) in
       let long : length (take (i + 1) list) ≡ length (take i list) + 1 = ap length last ∙ length_push (take i list) c in
       record {
         history = noted c a ∷ s.history;
         listed = ap (λ y. y ∷ calls s.history) (noted_call c a) ∙ ap (λ ys. c ∷ ys) s.listed ∙ sym (ap reverse last ∙ reverse-append (take i list) (c ∷ []));
-        counted = omega (arith, s.counted, t.counts, noted_accepted c a);
-        facts = t.took.facts ∙ s.facts;
-        steps = Leads.more s.steps (subst (λ (f : Facts). Step (kernel_of o kind f) (state_of mid) (noted c a) (state_of z)) s.facts t.took.step);
-        few = omega (arith, s.few, long, t.counts, one_most a);
+        counted = omega (arith, count, s.counted, ap {B = ℕ} (λ b. cond b 1 0) (noted_accepted c a));
+        facts = t.facts ∙ s.facts;
+        steps = Leads.more s.steps (subst (λ (f : Facts). Step (kernel_of o kind f) (state_of mid) (noted c a) (state_of z)) s.facts t.step);
+        few = omega (arith, count, s.few, long, one_most (is_ok a));
       }
 
   -- the whole list

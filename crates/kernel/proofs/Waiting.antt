@@ -1,5 +1,5 @@
 -- the latest wait that a kernel tells is that of the history
-use Rattle.std.proofs.Common.{◌≡◌, ℕ, ◌*◌, ◌≤◌, ◌&&◌, ltb, List, Some, Option, sym, ap, ◌∙◌, subst}
+use Rattle.std.proofs.Common.{◌≡◌, ℕ, ◌*◌, ◌≤◌, ◌&&◌, ltb, List, Some, sym, ap, ◌∙◌, subst}
 use Rattle.orders.specs.declared.order.Order.{Ghosts}
 use Rattle.orders.proofs.Answered.{asked_some}
 use Rattle.keys.specs.declared.kind.KeyKind
@@ -29,5 +29,5 @@ module _ {S K D Y : Type 0} (o : Ghosts S) (kind : KeyKind.Ghosts K D Y) (k : Ke
         within = subst (λ x. x ≤ (row k.board t).told * (hold k.board r).longest) (sym blocked) (subst (λ x. blocked_ticks key m h t ≤ x) (sym figure) (kept.bounded t));
       }
 
-  pub waited : (a : Option Wait) (w : Wait) → a ≡ wait_answer k t → a ≡ Some w → Waited o kind k t w h
-  waited a w e is = subst (λ (x : Wait). Waited o kind k t x h) (sym (asked_some (k.limits.checked && ltb t k.limits.tasks) (wait_of k.board t) w (sym is ∙ e)).1) waited_of
+  pub waited : (w : Wait) → wait_answer k t ≡ Some w → Waited o kind k t w h
+  waited w is = subst (λ (x : Wait). Waited o kind k t x h) (sym (asked_some ((facts_of k).checked && ltb t (facts_of k).tasks) (wait_of k.board t) w (sym is)).1) waited_of

@@ -1,5 +1,5 @@
 -- What a call of the kernel promises
-use Rattle.std.specs.Prelude.{◌≡◌, ℕ, ◌+◌, ◌≤◌, cond, List, [], ◌∷◌, ◌++◌, reverse, Ok, Err, Result}
+use Rattle.std.specs.Prelude.{◌≡◌, ℕ, ◌+◌, ◌≤◌, cond, List, [], ◌∷◌, ◌++◌, reverse, Err, Result}
 use Rattle.orders.specs.declared.order.Order.{Ghosts}
 use Rattle.keys.specs.declared.kind.KeyKind
 use Rattle.runs.specs.declared.call.Call.{Call}
@@ -19,21 +19,14 @@ pub record Took {S K D Y : Type 0} (o : Ghosts S) (kind : KeyKind.Ghosts K D Y) 
   pub facts : facts_of z ≡ facts_of k
   pub kept : (e : Refusal) → a ≡ Err e → z ≡ k
 
--- 1 for an accepted answer, else 0
-abbrev pub one_if_accepted : Result Accepted Refusal → ℕ
-one_if_accepted (Ok a) = 1
-one_if_accepted (Err e) = 0
+-- so it is for every checked start and every history that led from it to the kernel k
+abbrev pub EachHistory : {S K D Y : Type 0} → Ghosts S → KeyKind.Ghosts K D Y → Kernel S K D Y → (State S → List (Event D) → Type 0) → Type 0
+EachHistory {S} {K} {D} {Y} o kind k P = (start : State S) (h : List (Event D)) → Fresh (kernel_of o kind (facts_of k)) start → Leads (kernel_of o kind (facts_of k)) start h (state_of k) → P start h
 
--- the call c took the kernel k to z with some answer, and n is 1 where it was accepted
-pub record Counted {S K D Y : Type 0} (o : Ghosts S) (kind : KeyKind.Ghosts K D Y) (k : Kernel S K D Y) (c : Call D) (n : ℕ) (z : Kernel S K D Y) : Type 0 where
-  pub answer : Result Accepted Refusal
-  pub took : Took o kind k c answer z
-  pub counts : n ≡ one_if_accepted answer
-
--- from every checked start, whatever history led to k: with the events after it, it leads to z, and the guarantee holds of it
+-- whatever history led to k: with the events after it, it leads to z, and the guarantee holds of it
 pub record Holds {S K D Y : Type 0} (o : Ghosts S) (kind : KeyKind.Ghosts K D Y) (k : Kernel S K D Y) (events : List (Event D)) (z : Kernel S K D Y) : Type 0 where
-  pub leads : (start : State S) (h : List (Event D)) → Fresh (kernel_of o kind (facts_of k)) start → Leads (kernel_of o kind (facts_of k)) start h (state_of k) → Leads (kernel_of o kind (facts_of z)) start (events ++ h) (state_of z)
-  pub guarantee : (start : State S) (h : List (Event D)) → Fresh (kernel_of o kind (facts_of k)) start → Leads (kernel_of o kind (facts_of k)) start h (state_of k) → Guarantee (kernel_of o kind (facts_of z)) start (events ++ h) (state_of z)
+  pub leads : EachHistory o kind k (λ start h. Leads (kernel_of o kind (facts_of z)) start (events ++ h) (state_of z))
+  pub guarantee : EachHistory o kind k (λ start h. Guarantee (kernel_of o kind (facts_of z)) start (events ++ h) (state_of z))
 
 -- with the gate over first-come no count told is above 2m - 1, and one list of calls, from the gate as it is made, reaches exactly that
 pub record GateFigure {K D Y : Type 0} (kind : KeyKind.Ghosts K D Y) : Type 0 where

@@ -1,8 +1,8 @@
 -- A kernel as the state that the step speaks of
-use Rattle.std.specs.Prelude.{◌≡◌, ℕ, ◌*◌, ◌<◌, ◌≤◌, Bool, true, false, cond, not, ◌&&◌, List, get_or, Some, None, Ok, Err, Option, Result, ◌==◌, nat_lt, slice_index_or}
+use Rattle.std.specs.Prelude.{◌≡◌, ℕ, ◌*◌, ◌<◌, Bool, true, false, cond, not, ◌&&◌, List, get_or, Some, None, Ok, Err, Option, Result, nat_lt, slice_index_or}
 use Rattle.board.specs.declared.board.Board.{Board}
-use Rattle.jobs.specs.declared.number.TaskNo.{TaskNo}
-use Rattle.jobs.specs.declared.number.ResourceNo.{ResourceNo}
+use Rattle.orders.specs.declared.order.Order.{Ghosts}
+use Rattle.orders.specs.Services.{meaning}
 use Rattle.board.specs.Boards.{blank, unheld, jobs_of, turned, begun_hold}
 use Rattle.board.specs.Calls.{row, hold, Put, PutHold}
 use Rattle.board.specs.declared.record.TaskRecord.{TaskRecord}
@@ -16,7 +16,8 @@ use Rattle.runs.specs.declared.refusal.Refusal.{Refusal}
 use Rattle.runs.specs.declared.refusal.Refusal.TheVariants.{Unchecked, NoSuchTask, NoSuchResource}
 use Rattle.runs.specs.declared.refusal.Unfit.{Unfit}
 use Rattle.runs.specs.Histories.{Event}
-use Rattle.runs.specs.Steps.{Facts, State}
+use Rattle.runs.specs.Steps.{Facts, State, unfit}
+use Rattle.kernel.specs.declared.facts.Facts.{Facts as Wanted}
 use Rattle.kernel.specs.declared.facts.Limits.{Limits}
 use Rattle.kernel.specs.declared.kernel.Kernel.{Kernel}
 use Rattle.kernel.specs.declared.wait.Wait.{Wait}
@@ -35,25 +36,30 @@ fits (Some e) = false
 abbrev pub made_of : ℕ → ℕ → ℕ → Facts
 made_of m n r = record { checked = true; cores = m; tasks = n; resources = r }
 
--- the task of the number n is t, or the first refusal of a number of a task
-abbrev pub FoundTask : Limits → ℕ → Result TaskNo Refusal → Type 0
-FoundTask l n (Ok t) = (l.checked ≡ true) × (n < l.tasks) × (t.number ≡ n)
-FoundTask l n (Err e) = cond (not l.checked) (Some Unchecked) (cond (not (nat_lt n l.tasks)) (Some NoSuchTask) None) ≡ Some e
+-- the first fault of the facts with an order of service, if any
+abbrev pub fault : {S : Type 0} → Ghosts S → Wanted → S → Option Unfit
+fault o f s = unfit f.cores f.tasks f.resources (meaning o s)
 
--- the resource of the number n is r, or there is none
-abbrev pub FoundResource : Limits → ℕ → Result ResourceNo Refusal → Type 0
-FoundResource l n (Ok r) = (n < l.resources) × (r.number ≡ n)
-FoundResource l n (Err e) = (l.resources ≤ n) × (e ≡ NoSuchResource)
+-- whether a kernel has limits, and its numbers of tasks and of resources, 0 without them
+abbrev pub has_limits : Option Limits → Bool
+has_limits None = false
+has_limits (Some l) = true
 
--- t is the task named, if there is one
-abbrev pub is_it : Option ℕ → ℕ → Bool
-is_it None t = false
-is_it (Some h) t = h == t
+abbrev pub tasks_of : Option Limits → ℕ
+tasks_of None = 0
+tasks_of (Some l) = l.tasks
 
--- the number, or 0 where there is none
-abbrev pub or_zero : Option ℕ → ℕ
-or_zero None = 0
-or_zero (Some n) = n
+abbrev pub resources_of : Option Limits → ℕ
+resources_of None = 0
+resources_of (Some l) = l.resources
+
+-- the first refusal of a number of a task
+abbrev pub no_task : Facts → ℕ → Option Refusal
+no_task f n = cond (not f.checked) (Some Unchecked) (cond (not (nat_lt n f.tasks)) (Some NoSuchTask) None)
+
+-- the first refusal of a number of a resource
+abbrev pub no_resource : Facts → ℕ → Option Refusal
+no_resource f n = cond (not f.checked) (Some Unchecked) (cond (not (nat_lt n f.resources)) (Some NoSuchResource) None)
 
 -- the task named, if there is one, is one of the 64
 abbrev pub BelowTasks : Option ℕ → Type 0
@@ -68,12 +74,12 @@ HandedOver b (Some u) r z = (mid : Board) × PutHold b r (begun_hold (hold b r))
 -- the records and the order as a state
 abbrev pub view : {S : Type 0} → Board → S → State S
 view b z = record {
-  now = b.now;
-  jobs = jobs_of b.rows;
-  resource = λ t. (get_or b.rows t blank).resource;
-  serial = λ t. (get_or b.rows t blank).serial;
-  told = λ t. (get_or b.rows t blank).told;
-  lost = λ t. (get_or b.rows t blank).blocked;
+  now = b.ticks;
+  jobs = jobs_of b.table.rows;
+  resource = λ t. (get_or b.table.rows t blank).resource;
+  serial = λ t. (get_or b.table.rows t blank).serial;
+  told = λ t. (get_or b.table.rows t blank).told;
+  lost = λ t. (get_or b.table.rows t blank).blocked;
   used = λ r. (get_or b.holds r unheld).used;
   longest = λ r. (get_or b.holds r unheld).longest;
   order = z;
@@ -85,7 +91,7 @@ state_of k = view k.board k.order
 
 -- the facts of a kernel
 abbrev pub facts_of : {S K D Y : Type 0} → Kernel S K D Y → Facts
-facts_of k = record { checked = k.limits.checked; cores = k.board.cores; tasks = k.limits.tasks; resources = k.limits.resources }
+facts_of k = record { checked = has_limits k.limits; cores = k.board.cores; tasks = tasks_of k.limits; resources = resources_of k.limits }
 
 -- the event that a call and its answer make
 abbrev pub noted : {D : Type 0} → Call D → Result Accepted Refusal → Event D
@@ -128,11 +134,11 @@ handed (Err e) = Err e
 
 -- the record of a task of the kernel; none for a number outside, or of an unchecked kernel
 abbrev pub task_answer : {S K D Y : Type 0} → Kernel S K D Y → ℕ → Option TaskRecord
-task_answer k t = cond (k.limits.checked && nat_lt t k.limits.tasks) (Some (row k.board t)) None
+task_answer k t = cond ((facts_of k).checked && nat_lt t (facts_of k).tasks) (Some (row k.board t)) None
 
 -- the record of a resource of the kernel; none for a number outside, or of an unchecked kernel
 abbrev pub resource_answer : {S K D Y : Type 0} → Kernel S K D Y → ℕ → Option ResourceRecord
-resource_answer k r = cond (k.limits.checked && nat_lt r k.limits.resources) (Some (hold k.board r)) None
+resource_answer k r = cond ((facts_of k).checked && nat_lt r (facts_of k).resources) (Some (hold k.board r)) None
 
 -- a task's latest wait: blocked ticks, count told, longest hold of the resource, and the figure told × longest
 abbrev pub wait_of : Board → ℕ → Wait
@@ -144,9 +150,9 @@ wait_of b t = record {
 }
 
 abbrev pub wait_answer : {S K D Y : Type 0} → Kernel S K D Y → ℕ → Option Wait
-wait_answer k t = cond (k.limits.checked && nat_lt t k.limits.tasks) (Some (wait_of k.board t)) None
+wait_answer k t = cond ((facts_of k).checked && nat_lt t (facts_of k).tasks) (Some (wait_of k.board t)) None
 
 -- the set has who runs, for each of the 64 tasks
 abbrev pub RunningNow : {S K D Y : Type 0} → Kernel S K D Y → Option (List Bool) → Type 0
-RunningNow k None = k.limits.checked ≡ false
-RunningNow k (Some set) = (k.limits.checked ≡ true) × ((t : ℕ) → t < 64 → slice_index_or set t false ≡ running (state_of k).jobs (facts_of k).cores t)
+RunningNow k None = (facts_of k).checked ≡ false
+RunningNow k (Some set) = ((facts_of k).checked ≡ true) × ((t : ℕ) → t < 64 → slice_index_or set t false ≡ running (state_of k).jobs (facts_of k).cores t)

@@ -1,7 +1,6 @@
-ghost use Rattle.std.specs.Prelude.{◌≡◌, Bool, None as Nothing};
-ghost use Rattle.orders.specs.Services.{meaning};
-ghost use Rattle.runs.specs.Steps.{unfit, at_start, kernel_of, Fresh};
-ghost use Rattle.kernel.specs.Views.{checked_answer, fits, facts_of, state_of, made_of};
+ghost use Rattle.std.specs.Prelude.{◌≡◌, None as Nothing};
+ghost use Rattle.runs.specs.Steps.{at_start, kernel_of, Fresh};
+ghost use Rattle.kernel.specs.Views.{fault, checked_answer, fits, facts_of, state_of, made_of};
 
 use crate::facts::{Facts, Limits};
 use crate::kernel::Kernel;
@@ -12,15 +11,15 @@ use runs::Unfit;
 
 // Whether a kernel can be made of the facts and the order: the first fault, if any.
 pub fn check<O: Order>(facts: Facts, order: &O) -> Result<(), Unfit>
-    ensures { result ≡ checked_answer (unfit facts.cores facts.tasks facts.resources (meaning O.Order order.now)) }
+    ensures { result ≡ checked_answer (fault O.Order facts order.now) }
 {
-    if facts.cores < 1 || facts.cores > 16 {
+    if !(1..=16).contains(&facts.cores) {
         return Err(Unfit::Cores);
     }
-    if facts.tasks < 1 || facts.tasks > 64 {
+    if !(1..=64).contains(&facts.tasks) {
         return Err(Unfit::Tasks);
     }
-    if facts.resources < 1 || facts.resources > 32 {
+    if !(1..=32).contains(&facts.resources) {
         return Err(Unfit::Resources);
     }
     if order.width() != facts.cores {
@@ -40,21 +39,17 @@ pub fn check<O: Order>(facts: Facts, order: &O) -> Result<(), Unfit>
 // questions none.
 pub fn start<O: Order, K: KeyKind>(facts: Facts, order: O, kind: K) -> Kernel<O, K>
     ensures order { state_of result ≡ at_start order }
-    ensures checked { (facts_of result).checked ≡ fits (unfit facts.cores facts.tasks facts.resources (meaning O.Order order)) }
-    ensures facts { unfit facts.cores facts.tasks facts.resources (meaning O.Order order) ≡ Nothing → facts_of result ≡ made_of facts.cores facts.tasks facts.resources }
-    ensures fresh { unfit facts.cores facts.tasks facts.resources (meaning O.Order order) ≡ Nothing → Fresh (kernel_of O.Order K.KeyKind (facts_of result)) (state_of result) }
+    ensures checked { (facts_of result).checked ≡ fits (fault O.Order facts order) }
+    ensures facts { fault O.Order facts order ≡ Nothing → facts_of result ≡ made_of facts.cores facts.tasks facts.resources }
+    ensures fresh { fault O.Order facts order ≡ Nothing → Fresh (kernel_of O.Order K.KeyKind (facts_of result)) (state_of result) }
 {
+    // `map` was tried here: its closure does not know that the numbers are in range.
     let limits = match check(facts, &order) {
-        Ok(()) => Limits {
-            checked: true,
+        Ok(()) => Some(Limits {
             tasks: facts.tasks,
             resources: facts.resources,
-        },
-        Err(_) => Limits {
-            checked: false,
-            tasks: 0,
-            resources: 0,
-        },
+        }),
+        Err(_) => None,
     };
     Kernel {
         limits,

@@ -10,6 +10,6 @@ impl<O: Order, K: KeyKind> Kernel<O, K> {
     pub fn is_checked(&self) -> bool
         ensures { result ≡ (facts_of self.now).checked }
     {
-        self.limits.checked
+        self.limits.is_some()
     }
 }

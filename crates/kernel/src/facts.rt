@@ -1,18 +1,16 @@
 ghost use Rattle.std.specs.Prelude.{◌≤◌};
 
 // What a kernel is to be made of.
-#[derive(Clone, Copy)]
+#[derive(Clone, Copy, Debug, PartialEq, Eq)]
 pub struct Facts {
     pub cores: u32,
     pub tasks: u32,
     pub resources: u32,
 }
 
-// The limits of a kernel, and whether check accepted its facts. A kernel whose
-// facts it refused has no task and no resource.
+// How many tasks and resources a kernel has.
 #[derive(Clone, Copy)]
 pub struct Limits {
-    pub(crate) checked: bool,
     pub(crate) tasks: u32,
     pub(crate) resources: u32,
     ghost few: { tasks ≤ 64 },

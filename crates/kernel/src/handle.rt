@@ -1,6 +1,6 @@
-ghost use Rattle.std.specs.Prelude.{◌≡◌, [], ◌∷◌};
-ghost use Rattle.kernel.specs.Views.{noted, Plain, done as done_with, counted as counted_with, handed as handed_with};
-ghost use Rattle.kernel.specs.Promises.{Took, Counted, Holds, GateFigure, Ran};
+ghost use Rattle.std.specs.Prelude.{[], ◌∷◌};
+ghost use Rattle.kernel.specs.Views.{noted, Plain};
+ghost use Rattle.kernel.specs.Promises.{Took, Holds, GateFigure, Ran};
 
 use crate::kernel::Kernel;
 use keys::KeyKind;
@@ -8,51 +8,24 @@ use longest::longest_wait_stands;
 use orders::Order;
 use runs::{Accepted, Call, Refusal, guarantee_stands};
 
-// The answer of a call that tells nothing.
-fn done(answer: Result<(), Refusal>) -> Result<Accepted, Refusal>
-    ensures { result ≡ done_with answer }
-{
-    match answer {
-        Ok(()) => Ok(Accepted {
-            told: 0,
-            next: None,
-        }),
-        Err(why) => Err(why),
-    }
-}
-
-// The answer of a request, which tells a count.
-fn counted(answer: Result<u32, Refusal>) -> Result<Accepted, Refusal>
-    ensures { result ≡ counted_with answer }
-{
-    match answer {
-        Ok(told) => Ok(Accepted { told, next: None }),
-        Err(why) => Err(why),
-    }
-}
-
-// The answer of a release, which tells the next holder.
-fn handed(answer: Result<Option<u32>, Refusal>) -> Result<Accepted, Refusal>
-    ensures { result ≡ handed_with answer }
-{
-    match answer {
-        Ok(next) => Ok(Accepted { told: 0, next }),
-        Err(why) => Err(why),
-    }
-}
-
 impl<O: Order, K: KeyKind> Kernel<O, K> {
     // Any call, by its kind.
     fn dispatch(&mut self, call: Call<K::Declared>) -> Result<Accepted, Refusal>
         ensures took { Took O.Order K.KeyKind self.old call result self.new }
         ensures plain { Plain call result }
     {
+        let done = |()| Accepted {
+            told: 0,
+            next: None,
+        };
         match call {
-            Call::Arrive(task, declared) => done(self.arrive(task, declared)),
-            Call::Request(task, resource) => counted(self.request(task, resource)),
-            Call::Release(task) => handed(self.release(task)),
-            Call::Finish(task) => done(self.finish(task)),
-            Call::Tick => done(self.tick()),
+            Call::Arrive(task, declared) => self.arrive(task, declared).map(done),
+            Call::Request(task, resource) => self
+                .request(task, resource)
+                .map(|told| Accepted { told, next: None }),
+            Call::Release(task) => self.release(task).map(|next| Accepted { told: 0, next }),
+            Call::Finish(task) => self.finish(task).map(done),
+            Call::Tick => self.tick().map(done),
         }
     }
 
@@ -79,19 +52,11 @@ impl<O: Order, K: KeyKind> Kernel<O, K> {
         guarantee_stands::<O, K>();
         longest_wait_stands::<K>();
         let mut accepted = 0;
-        for i in 0..calls.len() {
-            accepted += self.count_call(calls[i]);
+        for call in calls {
+            if self.dispatch(*call).is_ok() {
+                accepted += 1;
+            }
         }
         accepted
-    }
-
-    // One call: 1 if it was accepted, else 0.
-    fn count_call(&mut self, call: Call<K::Declared>) -> usize
-        ensures { Counted O.Order K.KeyKind self.old call result self.new }
-    {
-        match self.dispatch(call) {
-            Ok(_) => 1,
-            Err(_) => 0,
-        }
     }
 }

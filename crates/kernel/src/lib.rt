@@ -9,6 +9,7 @@ mod checked;
 mod facts;
 mod handle;
 mod kernel;
+mod known;
 mod questions;
 mod wait;
 

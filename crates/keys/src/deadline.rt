@@ -6,7 +6,7 @@ use crate::kind::KeyKind;
 
 // The deadline kind declares a relative deadline, 1 to 4,294,967,295 ticks. The
 // key is the tick at which the job is due, and so is its code.
-#[derive(Clone, Copy)]
+#[derive(Clone, Copy, Debug, PartialEq, Eq)]
 pub struct Deadline;
 
 impl KeyKind for Deadline {
@@ -34,6 +34,6 @@ impl KeyKind for Deadline {
         if declared < 1 {
             return None;
         }
-        Some(arrival as u64 + declared as u64)
+        Some(u64::from(arrival) + u64::from(declared))
     }
 }

@@ -5,7 +5,9 @@ ghost use Rattle.std.proofs.Common.{rules};
 use crate::kind::KeyKind;
 
 // A band, 0 for urgent, 1 for normal or 2 for background, with a level from 0 to 255 in it.
-#[derive(Clone, Copy)]
+// Numbers, since whatever a caller or a file hands over must reach the range test: an
+// enum would ask more of callers.
+#[derive(Clone, Copy, Debug, PartialEq, Eq)]
 pub struct BandLevel {
     pub band: u32,
     pub level: u32,
@@ -13,7 +15,7 @@ pub struct BandLevel {
 
 // The fixed kind declares a band and a level, which are the key at every tick.
 // Lower bands go first, and lower levels within a band; each band has 256 codes.
-#[derive(Clone, Copy)]
+#[derive(Clone, Copy, Debug, PartialEq, Eq)]
 pub struct Fixed;
 
 impl KeyKind for Fixed {
@@ -41,6 +43,6 @@ impl KeyKind for Fixed {
         if declared.band > 2 || declared.level > 255 {
             return None;
         }
-        Some(declared.band as u64 * 256 + declared.level as u64)
+        Some(u64::from(declared.band) * 256 + u64::from(declared.level))
     }
 }

@@ -11,12 +11,11 @@ use runs::guarantee_stands;
 // it is made. And 2m - 1 is the reach of whatever such gate check accepts, so no
 // count told is above it. That there is a run of these calls is shown by running
 // them, not here.
-pub fn longest_wait_stands<K: KeyKind>() -> u8
+pub fn longest_wait_stands<K: KeyKind>()
     ensures longest { LongestWait K.KeyKind }
     ensures fresh { FreshGate K.KeyKind }
     ensures reach { ReachOfGate K.KeyKind }
     ensures told { ToldOfGate K.KeyKind }
 {
     guarantee_stands::<Gate<FirstCome>, K>();
-    0
 }

@@ -57,6 +57,6 @@ full k t n w facts less zeroth blocked told short =
     let figure : (row k.board t).told * (hold k.board (row k.board t).resource).longest ≡ w =
     ap (λ x. x * (hold k.board (row k.board t).resource).longest) told ∙ (ap (λ x. w * x) longest ∙ omega arith) in
     let same : wait_of k.board t ≡ full_wait w = cc in
-    let tasks : k.limits.tasks ≡ n = ap (λ (f : Facts). f.tasks) facts in
-    let known : (k.limits.checked && ltb t k.limits.tasks) ≡ true = and_from _ _ (ap (λ (f : Facts). f.checked) facts) (lt-ltb t k.limits.tasks (omega arith)) in
+    let tasks : (facts_of k).tasks ≡ n = ap (λ (f : Facts). f.tasks) facts in
+    let known : ((facts_of k).checked && ltb t (facts_of k).tasks) ≡ true = and_from _ _ (ap (λ (f : Facts). f.checked) facts) (lt-ltb t (facts_of k).tasks (omega arith)) in
     ap (λ b. cond b (Some (wait_of k.board t)) None) known ∙ ap Some same

@@ -10,48 +10,63 @@ use keys::KeyKind;
 use longest::longest_wait_stands;
 use runs::{Call, guarantee_stands};
 
-// The i-th task, from 0: tasks m to 2m - 1 come first, and then tasks 0 to m - 1.
-fn turn(m: u32, i: u32) -> u32
-    requires few { m ≤ 16 }
-    requires within { i < 2 * m }
-    ensures { result ≡ turn_of m i }
-{
-    if i < m { m + i } else { i - m }
+// A number of cores, from 1 to 16.
+#[derive(Clone, Copy)]
+struct Cores {
+    number: u32,
+    ghost some: { 1 ≤ number },
+    ghost few: { number ≤ 16 },
+}
+
+impl Cores {
+    // The i-th task, from 0: tasks m to 2m - 1 come first, and then tasks 0 to
+    // m - 1, where m is the number of cores.
+    fn turn(self, i: u32) -> u32
+        requires { i < 2 * self.number }
+        ensures { result ≡ turn_of self.number i }
+    {
+        let m = self.number;
+        if i < m { m + i } else { i - m }
+    }
 }
 
 // All 2m tasks arrive and request resource 0, one after the other.
-fn enter_all<K: KeyKind>(kernel: &mut Kernel<Gate<FirstCome>, K>, declared: K::Declared, m: u32)
-    requires few { m ≤ 16 }
-    ensures { Went K.KeyKind kernel.old (entries m declared (2 * m)) kernel.new }
+fn enter_all<K: KeyKind>(
+    kernel: &mut Kernel<Gate<FirstCome>, K>,
+    declared: K::Declared,
+    cores: Cores,
+)
+    ensures { Went K.KeyKind kernel.old (entries cores.number declared (2 * cores.number)) kernel.new }
 {
-    for i in 0..2 * m {
-        let task = turn(m, i);
+    for i in 0..2 * cores.number {
+        let task = cores.turn(i);
         let _ = kernel.handle(Call::Arrive(task, declared));
         let _ = kernel.handle(Call::Request(task, 0));
     }
 }
 
 // So many times there is a tick, and the next task releases.
-fn release_in_turn<K: KeyKind>(kernel: &mut Kernel<Gate<FirstCome>, K>, m: u32, times: u32)
-    requires few { m ≤ 16 }
-    requires within { times ≤ 2 * m }
-    ensures { Rounded K.KeyKind kernel.old m times kernel.new }
+fn release_in_turn<K: KeyKind>(kernel: &mut Kernel<Gate<FirstCome>, K>, cores: Cores, times: u32)
+    requires { times ≤ 2 * cores.number }
+    ensures { Rounded K.KeyKind kernel.old cores.number times kernel.new }
 {
     for j in 0..times {
-        let task = turn(m, j);
+        let task = cores.turn(j);
         let _ = kernel.handle(Call::Tick);
         let _ = kernel.handle(Call::Release(task));
     }
 }
 
 // Makes all the calls of the longest wait.
-fn make_calls<K: KeyKind>(kernel: &mut Kernel<Gate<FirstCome>, K>, declared: K::Declared, m: u32)
-    requires some { 1 ≤ m }
-    requires few { m ≤ 16 }
-    ensures { Went K.KeyKind kernel.old (longest_calls m declared) kernel.new }
+fn make_calls<K: KeyKind>(
+    kernel: &mut Kernel<Gate<FirstCome>, K>,
+    declared: K::Declared,
+    cores: Cores,
+)
+    ensures { Went K.KeyKind kernel.old (longest_calls cores.number declared) kernel.new }
 {
-    enter_all(kernel, declared, m);
-    release_in_turn(kernel, m, 2 * m - 1);
+    enter_all(kernel, declared, cores);
+    release_in_turn(kernel, cores, 2 * cores.number - 1);
 }
 
 // A kernel over the gate over first-come that has run the longest wait, where
@@ -76,6 +91,7 @@ pub fn longest_wait<K: KeyKind>(
         resources,
     };
     let mut kernel = start(facts, gated_line(cores), kind);
+    // `contains` was tried: the goal of the early return stays open.
     if cores < 1
         || cores > 16
         || tasks < 2 * cores
@@ -85,6 +101,6 @@ pub fn longest_wait<K: KeyKind>(
     {
         return kernel;
     }
-    make_calls(&mut kernel, declared, cores);
+    make_calls(&mut kernel, declared, Cores { number: cores });
     kernel
 }

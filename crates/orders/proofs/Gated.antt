@@ -31,16 +31,11 @@ inside_parts v f r t h =
 pub inside_from : (v : Meaning) (f : ℕ → ℕ → Bool) (r t : ℕ) → Inside v f r t → inside v f r t ≡ true
 inside_from v f r t i = rw (i.mark, eq-eqb (size v r) v.width i.full, i.out)
 
-and_never : (b : Bool) → (b && false) ≡ false
-and_never true = refl
-and_never false = refl
-
 pub inside_none : (v : Meaning) (f : ℕ → ℕ → Bool) (r t : ℕ) → size v r < v.width → inside v f r t ≡ false
-inside_none v f r t l = rw (ne_eqb (size v r) v.width (λ e. omega arith)) (and_never (f r t))
+inside_none v f r t l = rw (ne_eqb (size v r) v.width (λ e. omega arith)) (grind arith)
 
-or_never : (b : Bool) → (b || false) ≡ b
-or_never true = refl
-or_never false = refl
+pub or_never : (b : Bool) → (b || false) ≡ b
+or_never b = grind arith
 
 or_second : (a b : Bool) → a ≡ false → (a || b) ≡ true → b ≡ true
 or_second true b e h = absurd (true≢false e)
@@ -185,7 +180,7 @@ joined_gate v f f' k k' r t c some full out mark code marks codes =
 
 -- ---- a pass
 
-some_same : (a b : ℕ) → Some a ≡ Some b → a ≡ b
+pub some_same : (a b : ℕ) → Some a ≡ Some b → a ≡ b
 some_same a b e = cc
 
 pub left_size : (v m : Meaning) → Rules v → (r h : ℕ) → v.holder r ≡ Some h → Left v r m → size v r ≡ size m r + 1
@@ -224,7 +219,7 @@ kept_chain v m w q u a b = record {
 -- the best of the gate, b, went below: v before, m after the pass below, w at the end
 module _ (v m w : Meaning) (f f' : ℕ → ℕ → Bool) (k k' : ℕ → ℕ → ℕ) (ok : Fit v) (rules : Rules w) (wide : w.width ≡ v.width) (far : w.reach ≡ v.reach)
     (r h b : ℕ) (held : v.holder r ≡ Some h) (l : Left v r m) (waits : Inside v f r b) (best : (u : ℕ) → inside v f r u ≡ true → ahead (k r u) u (k r b) b ≡ false)
-    (bk : b < 64) (j : Joined m r b (k r b) w) (left : f' r h ≡ false) (marks : (u : ℕ) → (v.holder r ≡ Some u → ⊥) → (u ≡ b → ⊥) → f' r u ≡ f r u) (codes : (u : ℕ) → k' r u ≡ k r u) where
+    (bk : b < 64) (j : Joined m r b (k r b) w) (left : f' r h ≡ false) (marks : (u : ℕ) → (v.holder r ≡ Some u → ⊥) → (u ≡ b → ⊥) → f' r u ≡ f r u) (codes : (u : ℕ) → (v.holder r ≡ Some u → ⊥) → (u ≡ b → ⊥) → k' r u ≡ k r u) where
   fresh : m.queued r b ≡ false
   fresh = l.rest b (λ e. both_ways (v.queued r b) waits.out (ok.rules.held r b e)) ∙ waits.out
 
@@ -253,12 +248,12 @@ module _ (v m w : Meaning) (f f' : ℕ → ℕ → Bool) (k k' : ℕ → ℕ →
   gone_mark : (u : ℕ) → v.holder r ≡ Some u → f' r u ≡ false
   gone_mark u e = subst (λ x. f' r x ≡ false) (some_same h u (sym held ∙ e)) left
 
-  -- a task that waits in the gate after waited there before, and is not b
-  pub waited : (t : ℕ) → (w.queued r t ≡ false) → inside w f' r t ≡ true → (t ≡ b → ⊥) × (inside v f r t ≡ true)
+  -- a task that waits in the gate after waited there before with its code, and is not b
+  pub waited : (t : ℕ) → (w.queued r t ≡ false) → inside w f' r t ≡ true → (t ≡ b → ⊥) × (inside v f r t ≡ true) × (k' r t ≡ k r t)
   waited t o i =
       let ne : t ≡ b → ⊥ = λ e. both_ways (w.queued r t) o (subst (λ x. w.queued r x ≡ true) (sym e) j.queued) in
       let n : v.holder r ≡ Some t → ⊥ = λ e. both_ways (f' r t) (gone_mark t e) (inside_parts w f' r t i).mark in
-      (ne, sym (stays t n ne) ∙ i)
+      (ne, sym (stays t n ne) ∙ i, codes t n ne)
 
   -- its delay falls
   shorter : (t : ℕ) → (t ≡ b → ⊥) → inside v f r t ≡ true → delay w r (k r t) t ≤ delay v r (k r t) t - 1
@@ -293,7 +288,7 @@ module _ (v m w : Meaning) (f f' : ℕ → ℕ → Bool) (k k' : ℕ → ℕ →
               let i = waited t o (or_second (w.queued r t) (inside w f' r t) o q) in
               let v-out = (inside_parts v f r t i.1).out in
               let s = shorter t ne i.1 in
-              (rw (o, v-out, codes t, far) (omega arith), λ c. let d = delayed v ok r (k r t) t (rw v-out at c) in rw (o, v-out, codes t, far) (omega arith))
+              (rw (o, v-out, i.2, far) (omega arith), λ c. let d = delayed v ok r (k r t) t (rw v-out at c) in rw (o, v-out, i.2, far) (omega arith))
         ]
       ]
 
@@ -312,7 +307,7 @@ module _ (v m w : Meaning) (f f' : ℕ → ℕ → Bool) (k k' : ℕ → ℕ →
           | inl y ↦ let d = below t ne y in rw (y, d.1) d.2
           | inr o ↦
               let i = waited t o (or_second (w.queued r t) (inside w f' r t) o q) in
-              rw (o, (inside_parts v f r t i.1).out) (codes t)
+              rw (o, (inside_parts v f r t i.1).out) i.2
         ]
       ]
 

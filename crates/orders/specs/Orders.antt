@@ -31,6 +31,11 @@ before v r c t u = v.queued r u && ahead (v.code r u) u c t
 abbrev pub asked : {A : Type 0} → Bool → A → Option A
 asked b x = cond b (Some x) None
 
+-- t is the task named, if there is one
+abbrev pub is_it : Option ℕ → ℕ → Bool
+is_it None t = false
+is_it (Some h) t = h == t
+
 -- what holds of an order at every moment
 pub record Rules (v : Meaning) : Type 0 where
   -- the numbers: resources below 32, tasks below 64, no more queued than places, a reach of 16 bits

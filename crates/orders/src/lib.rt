@@ -5,8 +5,10 @@
 
 mod nobody;
 mod order;
+mod rank;
 mod refusal;
 
 pub use nobody::nobody_queued;
 pub use order::Order;
+pub use rank::Rank;
 pub use refusal::OrderRefusal;

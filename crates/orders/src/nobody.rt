@@ -8,10 +8,5 @@ use crate::order::Order;
 pub fn nobody_queued<O: Order>(order: &O) -> bool
     ensures { result ≡ idle (meaning O.Order order.now) }
 {
-    for r in 0..32u32 {
-        if order.holder(r).is_some() {
-            return false;
-        }
-    }
-    true
+    (0..32u32).all(|r| order.holder(r).is_none())
 }

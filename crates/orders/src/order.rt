@@ -52,7 +52,8 @@ pub trait Order {
     fn holder(&self, resource: u32) -> Option<u32>
         ensures { result ≡ holder self.now resource };
 
-    // Whether a task is queued for a resource.
+    // Whether a task is queued for a resource. Callers have the two as numbers, so a
+    // type for the pair would be made only to be taken apart.
     fn queued(&self, resource: u32, task: u32) -> bool
         ensures { result ≡ queue self.now resource task };
 
@@ -77,7 +78,8 @@ pub trait Order {
     fn pass(&mut self, resource: u32) -> Result<Option<u32>, OrderRefusal>
         ensures { passed self.old resource result self.new };
 
-    // The rules that speak of one moment.
+    // The rules that speak of one moment. A law sees the members above it and not what
+    // packs them (`meaning` is told of the whole trait), so it writes them out.
     ghost rules: { (s : Self) → Rules (means (width s) (places s) (reach s) (queue s) (holder s) (code s) (count s) (covered s)) };
 
     // What an admission answers and leaves, in the words of the meaning.

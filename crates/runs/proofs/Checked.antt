@@ -1,9 +1,8 @@
 -- What follows from a start that check accepts
-use Rattle.std.proofs.Common.{◌≡◌, ℕ, ◌≤◌, true, false, not, ◌&&◌, eqb, ltb, leb, is_some, Some, None, Option, refl, inl, inr, arith}
-use Rattle.std.proofs.lemmas.Bool.{cases_Bool, and_parts, not-true, not-false, true≢false, leb-true, ltb-false, eqb-true}
-use Rattle.orders.specs.Orders.{Meaning, Rules}
+use Rattle.std.proofs.Common.{◌≡◌, ℕ, ◌≤◌, true, false, not, ◌&&◌, eqb, ltb, leb, None, arith}
+use Rattle.std.proofs.lemmas.Bool.{and_parts, not-false, leb-true, ltb-false, eqb-true}
+use Rattle.orders.specs.Orders.{Meaning}
 use Rattle.orders.specs.Gating.{idle}
-use Rattle.orders.proofs.Counts.{every_at}
 use Rattle.runs.specs.Steps.{unfit}
 
 -- what check finds right of m cores, n tasks and r resources with an order that means v
@@ -41,14 +40,3 @@ fit_parts m n r v e =
       roomy = ltb-false _ _ p;
       empty = not-false _ i;
     }
-
-held_none : (o : Option ℕ) → is_some o ≡ false → o ≡ None
-held_none None e = refl
-held_none (Some t) e = absurd (true≢false e)
-
--- nobody is queued in an idle order
-pub nobody : (v : Meaning) → Rules v → idle v ≡ true → (r t : ℕ) → v.queued r t ≡ false
-nobody v rules e r t = elim (cases_Bool (v.queued r t)) [
-  | inl q ↦ absurd (rules.some r t q (held_none (v.holder r) (not-true _ (every_at (λ p. not (is_some (v.holder p))) 32 e r (rules.within r t q).0))))
-  | inr q ↦ q
-]

@@ -7,7 +7,8 @@ use Rattle.jobs.specs.Jobs.{pending, is_waiting, is_holding}
 use Rattle.orders.specs.Services.{meaning, Lawful}
 use Rattle.runs.specs.Histories.{Event}
 use Rattle.runs.specs.Steps.{Kernel, State, Step, Fresh, Leads}
-use Rattle.runs.proofs.Checked.{Fits, fit_parts, nobody}
+use Rattle.orders.proofs.Fresh.{nobody}
+use Rattle.runs.proofs.Checked.{Fits, fit_parts}
 use Rattle.runs.proofs.Served.{entered, passed}
 use Rattle.runs.proofs.Agreement.{uses}
 use Rattle.runs.proofs.Standing.{Stands, stands_start, stands_quiet, stands_request, stands_release, stands_tick}

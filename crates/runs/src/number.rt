@@ -4,7 +4,8 @@ ghost use Rattle.runs.specs.Refusals.{number_of, unfit_number};
 use crate::refusal::{Refusal, Unfit};
 
 impl Refusal {
-    // The number by which people know the refusal.
+    // The number by which people know the refusal. A conversion would not say which
+    // number it is.
     pub fn number(self) -> u32
         ensures { result ≡ number_of self }
     {
@@ -26,7 +27,7 @@ impl Refusal {
 }
 
 impl Unfit {
-    // The number by which people know the fault.
+    // The number by which people know the fault, by a name for the same reason.
     pub fn number(self) -> u32
         ensures { result ≡ unfit_number self }
     {

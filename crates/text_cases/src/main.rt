@@ -5,7 +5,7 @@
 
 ghost use Rattle.std.specs.Prelude.{◌≡◌, length};
 ghost use Rattle.fields.specs.Cutting.{lines};
-ghost use Rattle.text_cases.specs.Cases.{fault_in, case_fault};
+ghost use Rattle.text_cases.specs.Cases.{case_fault};
 
 use event_text::{TextFault, cut_line, read_deadline_event, read_fixed_event, read_header};
 use reader::Reader;
@@ -415,25 +415,17 @@ static FILES: [File; 7] = [
     },
 ];
 
-fn fault_of<A: Copy>(read: Result<A, TextFault>) -> Option<TextFault>
-    ensures { result ≡ fault_in read }
-{
-    match read {
-        Ok(_) => None,
-        Err(fault) => Some(fault),
-    }
-}
-
 fn fault(case: Case) -> Option<TextFault>
     ensures { result ≡ case_fault case.as_a case.line.now }
 {
     match case.as_a {
-        Reader::Header => fault_of(read_header(case.line)),
-        Reader::Deadline => fault_of(read_deadline_event(case.line)),
-        Reader::Fixed => fault_of(read_fixed_event(case.line)),
+        Reader::Header => read_header(case.line).err(),
+        Reader::Deadline => read_deadline_event(case.line).err(),
+        Reader::Fixed => read_fixed_event(case.line).err(),
     }
 }
 
+// How many lines `cut_line` cuts from a file, which is what is tried here.
 fn count_lines(file: &[u8]) -> usize
     ensures { result ≡ length (lines file.now) }
 {
@@ -449,10 +441,7 @@ fn count_lines(file: &[u8]) -> usize
 fn main(rt: HostRuntime) -> io::Result<()> {
     for case in &CASES {
         let name = case.name;
-        let number = match fault(*case) {
-            Some(fault) => fault.number(),
-            None => 0,
-        };
+        let number = fault(*case).map_or(0, |fault| fault.number());
         println!(rt; "{number} {name}")?;
     }
     for file in &FILES {

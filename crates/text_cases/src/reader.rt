@@ -1,5 +1,5 @@
 // What a line is read as.
-#[derive(Clone, Copy)]
+#[derive(Clone, Copy, Debug, PartialEq, Eq)]
 pub enum Reader {
     Header,
     Deadline,

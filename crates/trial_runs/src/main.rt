@@ -10,7 +10,7 @@ use double_line::DoubleLine;
 use first_come::FirstCome;
 use gate::Gate;
 use gated_line::gated_line;
-use jobs::TaskState;
+use jobs::power_sum;
 use kernel::{Facts, Kernel, start};
 use keys::{BandLevel, Deadline, Fixed, KeyKind};
 use longest_run::longest_wait;
@@ -29,34 +29,15 @@ fn tell_event(rt: HostRuntime, call: Call<u32>) -> io::Result<()> {
     }
 }
 
-// 0 for an accepted event, else the refusal's number.
-fn answer_number(answer: Result<Accepted, Refusal>) -> u32 {
-    match answer {
-        Ok(_) => 0,
-        Err(why) => why.number(),
-    }
+// 0 for an accepted event, else the refusal's number; and the count told, 0 where none is.
+fn numbers(answer: Result<Accepted, Refusal>) -> (u32, u32) {
+    answer.map_or_else(|why| (why.number(), 0), |accepted| (0, accepted.told))
 }
 
-// The count told; 0 where none is.
-fn count_told(answer: Result<Accepted, Refusal>) -> u32 {
-    match answer {
-        Ok(accepted) => accepted.told,
-        Err(_) => 0,
-    }
-}
-
-// The running tasks, as the sum of 2^task.
+// The running tasks, as the sum of 2^task. The event files have this line for
+// themselves: a crate for it below both would be no plainer.
 fn running_sum<O: Order>(kernel: &Kernel<O, Deadline>) -> u64 {
-    let Some(set) = kernel.running() else {
-        return 0;
-    };
-    let mut sum = 0u64;
-    for task in 0..64usize {
-        if set[task] {
-            sum |= 1u64 << task;
-        }
-    }
-    sum
+    kernel.running().map_or(0, |set| power_sum(set))
 }
 
 // Hands one event to the kernel, and says what came of it.
@@ -65,22 +46,11 @@ fn play<O: Order>(
     kernel: &mut Kernel<O, Deadline>,
     call: Call<u32>,
 ) -> io::Result<()> {
-    let answer = kernel.handle(call);
-    let number = answer_number(answer);
-    let told = count_told(answer);
+    let (number, told) = numbers(kernel.handle(call));
     let running = running_sum(kernel);
     print!(rt; "  answer {number}, running {running}, told {told}: ")?;
     tell_event(rt, call)?;
     println!(rt; "")
-}
-
-fn state_word(state: TaskState) -> &'static str {
-    match state {
-        TaskState::Idle => "idle",
-        TaskState::Ready => "ready",
-        TaskState::Waiting(_) => "waiting",
-        TaskState::Holding(_) => "holding",
-    }
 }
 
 // Says how a task stands, and of its latest wait the numbers and the figure.
@@ -91,7 +61,7 @@ fn tell_task<O: Order>(rt: HostRuntime, kernel: &Kernel<O, Deadline>, task: u32)
     let Some(wait) = kernel.latest_wait(task) else {
         return println!(rt; "  there is no task {task}");
     };
-    let state = state_word(record.state);
+    let state = record.state;
     let blocked = wait.blocked;
     let told = wait.told;
     let longest = wait.longest;
@@ -131,13 +101,17 @@ fn sample(rt: HostRuntime) -> io::Result<()> {
         resources: 1,
     };
     let mut kernel = start(facts, gated_line(1), Deadline);
-    play(rt, &mut kernel, Call::Arrive(0, 90))?;
-    play(rt, &mut kernel, Call::Request(0, 0))?;
-    play(rt, &mut kernel, Call::Arrive(1, 10))?;
-    play(rt, &mut kernel, Call::Request(1, 0))?;
-    play(rt, &mut kernel, Call::Tick)?;
-    play(rt, &mut kernel, Call::Release(0))?;
-    play(rt, &mut kernel, Call::Finish(1))?;
+    for call in [
+        Call::Arrive(0, 90),
+        Call::Request(0, 0),
+        Call::Arrive(1, 10),
+        Call::Request(1, 0),
+        Call::Tick,
+        Call::Release(0),
+        Call::Finish(1),
+    ] {
+        play(rt, &mut kernel, call)?;
+    }
     tell_task(rt, &kernel, 0)?;
     tell_task(rt, &kernel, 1)?;
     tell_resource(rt, &kernel, 0)
@@ -179,7 +153,7 @@ fn longest_waits(rt: HostRuntime) -> io::Result<()> {
         "Longest wait behind the gate over first-come, with twice as many tasks as cores."
     )?;
     println!(rt; "The blocked ticks reach the figure, told x longest, which is 2 x cores - 1.")?;
-    for cores in 1..17u32 {
+    for cores in 1..=16 {
         longest_with(rt, cores)?;
     }
     Ok(())
@@ -187,34 +161,35 @@ fn longest_waits(rt: HostRuntime) -> io::Result<()> {
 
 // Four tasks ask for one resource, the later the more urgent.
 fn everybody_asks<O: Order>(rt: HostRuntime, kernel: &mut Kernel<O, Deadline>) -> io::Result<()> {
-    play(rt, kernel, Call::Arrive(0, 90))?;
-    play(rt, kernel, Call::Request(0, 0))?;
-    play(rt, kernel, Call::Arrive(1, 50))?;
-    play(rt, kernel, Call::Request(1, 0))?;
-    play(rt, kernel, Call::Arrive(2, 40))?;
-    play(rt, kernel, Call::Request(2, 0))?;
-    play(rt, kernel, Call::Arrive(3, 10))?;
-    play(rt, kernel, Call::Request(3, 0))
+    for (task, due) in [(0, 90), (1, 50), (2, 40), (3, 10)] {
+        play(rt, kernel, Call::Arrive(task, due))?;
+        play(rt, kernel, Call::Request(task, 0))?;
+    }
+    Ok(())
 }
 
 // Ticks pass, and two of them release in turn.
 fn some_release<O: Order>(rt: HostRuntime, kernel: &mut Kernel<O, Deadline>) -> io::Result<()> {
-    play(rt, kernel, Call::Tick)?;
-    play(rt, kernel, Call::Tick)?;
-    play(rt, kernel, Call::Release(0))?;
-    play(rt, kernel, Call::Tick)?;
-    play(rt, kernel, Call::Release(1))?;
-    play(rt, kernel, Call::Tick)
+    for call in [
+        Call::Tick,
+        Call::Tick,
+        Call::Release(0),
+        Call::Tick,
+        Call::Release(1),
+        Call::Tick,
+    ] {
+        play(rt, kernel, call)?;
+    }
+    Ok(())
 }
 
 // A run with contention, and what it leaves.
 fn contend<O: Order>(rt: HostRuntime, kernel: &mut Kernel<O, Deadline>) -> io::Result<()> {
     everybody_asks(rt, kernel)?;
     some_release(rt, kernel)?;
-    tell_task(rt, kernel, 0)?;
-    tell_task(rt, kernel, 1)?;
-    tell_task(rt, kernel, 2)?;
-    tell_task(rt, kernel, 3)?;
+    for task in 0..4 {
+        tell_task(rt, kernel, task)?;
+    }
     tell_resource(rt, kernel, 0)
 }
 

@@ -1,20 +1,14 @@
-use Rattle.std.proofs.Common.{◌≡◌, sym, refl, ◌∙◌, arith}
-use Rattle.orders.specs.Counting.{tally}
-use Rattle.jobs.specs.Jobs.{demand}
-use Rattle.board.proofs.Tallies.{tally_takes, tally_keeps}
+use Rattle.std.proofs.Common.{◌∙◌, get_or, rules, tests}
+use Rattle.std.proofs.lemmas.Iterator.{YieldsList-from_slice}
+use Rattle.std.proofs.lemmas.Iterator.Consumers.{YieldsList-at, YieldsList-from_enumerate, YieldsList-from_filter, count_from_yields_List}
+use Rattle.board.specs.Boards.{blank}
+use Rattle.board.proofs.Demands.{before, demand_counted}
 use Rattle.board.proofs.demand.demand.Goals as goal
-use Rattle.board.proofs.demand.demand.Goals.{then-is_before, else-is_before}
-
-pub loop-i-init : goal.loop-i-init
-unfolding tally
-loop-i-init c = (omega arith, refl)
-
-pub loop-i-preserved : goal.loop-i-preserved
-loop-i-preserved c = elim c.if-is_before.branch [
-  | then-is_before w ↦ (omega arith, w.before-is ∙ tally_takes _ _ _ c.loop-i.invariant.1 (sym c.is_before.ensures ∙ w.if-is_before.true))
-  | else-is_before w ↦ (omega arith, w.before-is ∙ tally_keeps _ _ _ c.loop-i.invariant.1 (sym c.is_before.ensures ∙ w.if-is_before.false))
-]
 
 pub returns : goal.returns
-unfolding demand
-returns c = let e : c.loop-i.i ≡ 64 = omega arith in rw (← e) c.loop-i.invariant.1
+returns c =
+    let rows = c.args.rows.now in
+    let t = c.args.task.number in
+    let listed = YieldsList-at c.filter.ensures.source (YieldsList-from_enumerate (YieldsList-at c.enumerate.ensures.source (YieldsList-from_slice rows (cc))) c.enumerate.ensures.count) in
+    count_from_yields_List c.filter.result _ c.count-ahead.ensures.ran (YieldsList-from_filter _ (λ p. before p.1 p.0 (get_or rows t blank) t) listed c.filter.ensures.closure (λ x r q k. search (rules, tests)))
+    ∙ demand_counted rows t (search rules)

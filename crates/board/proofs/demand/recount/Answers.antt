@@ -1,29 +1,24 @@
-use Rattle.std.proofs.Common.{rules}
-use Rattle.board.proofs.Demands.{shifting_fits, shifting_more, shifting_skips, shifting_ends}
+use Rattle.std.proofs.Common.{◌∙◌, rules, arith, slice_set}
+use Rattle.board.specs.Boards.{jobs_of, Counted}
+use Rattle.jobs.specs.Jobs.{demand}
+use Rattle.board.proofs.Ticks.{done_set}
+use Rattle.board.proofs.Demands.{demand_moved, demand_fits}
 use Rattle.board.proofs.demand.recount.Goals as goal
-use Rattle.board.proofs.demand.recount.Goals.{then-k-task, else-k-task}
+use Rattle.board.proofs.demand.recount.Goals.{then-k-t, else-k-t}
 
 pub shifted-requires : goal.shifted-requires
 shifted-requires c =
-    shifting_fits c.args.rows.now c.args.task c.args.old c.args.ahead.now c.loop-k.ahead c.loop-k.k c.requires.known (search rules) c.requires.counted c.loop-k.invariant
-    c.loop-k-test.true c.if-k-task.true c.is_before.result c.is_before.ensures
+    let t = c.get-t.result in
+    let counted : Counted (slice_set c.args.rows.now t c.args.old) c.args.ahead.now = rw c.get-t.ensures c.requires in
+    demand_fits c.args.rows.now t c.args.old c.loop-k.k (omega arith) (search rules) c.if-k-t.false _ (c.loop-k.invariant.left c.loop-k.k (omega arith) ∙ counted c.loop-k.k c.loop-k-test.true) _ (rw (c.rank-was.ensures, c.rank-own.ensures) at c.is_before.ensures)
 
 pub loop-k-preserved : goal.loop-k-preserved
 loop-k-preserved c =
-    let rows = c.args.rows.now in
-    let t = c.args.task in
-    let old = c.args.old in
-    let start = c.args.ahead.now in
-    let list = c.loop-k.ahead in
-    let n = c.loop-k.k in
-    elim c.if-k-task.branch [
-      | then-k-task w ↦ rw w.ahead-is
-          (shifting_more rows t old start list n c.requires.known (search rules) c.requires.counted c.loop-k.invariant c.loop-k-test.true w.if-k-task.true (search rules)
-          w.is_before.result w.is_before-then-k-task.result w.is_before.ensures w.is_before-then-k-task.ensures w.shifted.result w.shifted.ensures)
-      | else-k-task w ↦ rw w.ahead-is (shifting_skips rows t old start list n c.requires.known (search rules) c.requires.counted c.loop-k.invariant w.if-k-task.false)
-    ]
-
-pub returns : goal.returns
-returns c =
-    shifting_ends c.args.rows.now c.args.task c.args.old c.args.ahead.now c.loop-k.ahead c.loop-k.k c.requires.known (search rules) c.requires.counted c.loop-k.invariant
-    (search rules) (search rules) c.demand.result c.demand.ensures
+    let t = c.get-t.result in
+    let counted : Counted (slice_set c.args.rows.now t c.args.old) c.args.ahead.now = rw c.get-t.ensures c.requires in
+    let was = c.loop-k.invariant.left c.loop-k.k (omega arith) ∙ counted c.loop-k.k c.loop-k-test.true in
+    done_set (λ k x. demand (jobs_of c.args.rows.now) k) 0 c.args.ahead.now c.loop-k.ahead c.loop-k.k c.if-k-t.count c.loop-k.invariant (search rules)
+    (elim c.if-k-t.branch [
+      | then-k-t w ↦ rw (w.count-is, w.if-k-t.true, c.get-t.ensures) w.demand.ensures
+      | else-k-t w ↦ rw w.count-is (demand_moved c.args.rows.now t c.args.old c.loop-k.k (omega arith) (search rules) w.if-k-t.false _ was _ _ (rw (c.rank-was.ensures, c.rank-own.ensures) at w.is_before.ensures) (rw (c.rank-is.ensures, c.rank-own.ensures) at w.is_before-else-k-t.ensures) _ w.shifted.ensures)
+    ])

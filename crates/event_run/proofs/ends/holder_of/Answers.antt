@@ -1,13 +1,11 @@
-use Rattle.std.proofs.Common.{ℕ, sym, ap, ◌∙◌}
-use Rattle.jobs.specs.Jobs.{holds_it}
-use Rattle.kernel.specs.Views.{state_of}
-use Rattle.event_run.proofs.EndRows.{first_none, found_more}
+use Rattle.std.proofs.Common.{ℕ, true, false, rules, tests, ◌≡◌}
+use Rattle.std.proofs.lemmas.Iterator.{first_from_Range}
+use Rattle.kernel.specs.Views.{task_answer}
+use Rattle.event_run.specs.Outputs.{holding}
+use Rattle.event_run.proofs.EndRows.{first_is}
 use Rattle.event_run.proofs.ends.holder_of.Goals as goal
 
-pub loop-task-init : goal.loop-task-init
-loop-task-init g c = sym (first_none (λ t. holds_it c.args.resource ((state_of c.args.kernel.now).jobs.state t)))
-
-pub loop-task-preserved : goal.loop-task-preserved
-loop-task-preserved g c =
-    let p = λ (t : ℕ). holds_it c.args.resource ((state_of c.args.kernel.now).jobs.state t) in
-    found_more p c.loop-task.task c.holds.result c.loop-task.holder c.found-holder.result (c.holds.ensures ∙ ap (λ x. holds_it c.args.resource x.0) c.standing-state.ensures) c.loop-task.invariant c.found-holder.ensures
+pub returns : goal.returns
+returns g c =
+    let p = λ (t : ℕ). holding c.args.resource (task_answer c.args.kernel.now t) in
+    first_is p c.args.tasks c.find.result (first_from_Range _ _ _ c.find.result (λ t. p t ≡ true) (λ t. p t ≡ false) c.find.ensures.ran (λ x q k. search (rules, tests)) (λ x q k. search (rules, tests)))

@@ -1,14 +1,10 @@
-use Rattle.std.proofs.Common.{rules}
-use Rattle.std.proofs.lemmas.List.{nil_from_length}
-use Rattle.event_text.proofs.Lined.{line_ends, file_ends}
+use Rattle.std.proofs.Common.{◌≡◌, ◌+◌, ◌<◌, length, drop, rules, arith}
+use Rattle.std.proofs.lemmas.Grind.{common_steps}
+use Rattle.event_text.proofs.Lined.{first_line}
 use Rattle.event_text.proofs.lines.cut_line.Goals as goal
 
-pub returns-then-bytes-eq0 : goal.returns-then-bytes-eq0
-returns-then-bytes-eq0 c = nil_from_length c.args.bytes.now (search rules)
-
-pub returns-then-end-bytes : goal.returns-then-end-bytes
-returns-then-end-bytes c = line_ends c.args.bytes.now c.place_of-end.result c.place_of-end.ensures.place (search rules)
-
-pub returns-else-end-bytes : goal.returns-else-end-bytes
-returns-else-end-bytes c =
-    file_ends c.args.bytes.now c.place_of-end.result c.place_of-end.ensures.place (search rules) (search rules) (search rules)
+pub returns : goal.returns
+returns c =
+    let rest : c.unwrap_or.result.now ≡ drop (c.place_of-end.result + 1) c.args.bytes.now = grind (arith, common_steps) in
+    let some : 0 < length c.args.bytes.now = search rules in
+    rw rest (first_line c.args.bytes.now c.place_of-end.result c.place_of-end.ensures.place some)

@@ -1,29 +1,30 @@
-use Rattle.std.proofs.Common.{◌≡◌, ◌+◌, Bool, ◌&&◌, set, replicate, sym, ◌∙◌, subst, rules}
-use lib.ListN.{length-replicate}
-use Rattle.event_text.proofs.Sofar.{Sofar, at_start, absent, one_more, more_fields, one_unfit, each_fits}
+use Rattle.std.proofs.Common.{sym, ap, rules, ◌∙◌}
+use Rattle.event_text.specs.declared.fault.TextFault.TheVariants.{NoForm, BadNumber}
+use Rattle.event_text.specs.Grammar.{unless_bad}
+use Rattle.event_text.proofs.Sofar.{absent, one_more, more_fields, all_read}
+use Rattle.event_text.proofs.There.{err_is, missing, all_there}
 use Rattle.event_text.proofs.read.read_form.Goals as goal
 
-pub loop-i-init : goal.loop-i-init
-loop-i-init g c = at_start c.args.form c.args.line.now (replicate g.row.N 0) (length-replicate g.row.N 0 ∙ search rules)
-
-pub returns-in_default : goal.returns-in_default
-returns-in_default g c =
-    absent c.args.form c.args.line.now c.loop-i.i c.loop-i.fit c.loop-i.numbers _ c.loop-i.next c.loop-i.invariant (search rules) c.in_default.ensures
+pub returns-in_err-field : goal.returns-in_err-field
+returns-in_err-field g c =
+    err_is c.from_residual.result NoForm (search rules)
+    ∙ absent c.args.form c.args.line.now c.loop-i.i c.loop-i.found _ c.loop-i.next c.loop-i.invariant (search rules) (sym c.in_err-field.ensures.ok_part ∙ c.read_next.ensures)
 
 pub loop-i-preserved : goal.loop-i-preserved
 loop-i-preserved g c =
-    let both : c.if-fit.fit ≡ (c.loop-i.fit && c.in-Some.found.fits) = search rules in
-    subst (λ (b : Bool). Sofar c.args.form c.args.line.now (c.loop-i.i + 1) b (set c.loop-i.numbers c.loop-i.i c.in-Some.found.number) c.in-Some.found.next) (sym both)
-    (one_more c.args.form c.args.line.now c.loop-i.i c.loop-i.fit c.loop-i.numbers _ c.loop-i.next c.loop-i.invariant (search rules) c.in-Some.found c.in-Some.ensures)
+    one_more c.args.form c.args.line.now c.loop-i.i c.loop-i.found _ c.loop-i.next c.loop-i.invariant (search rules) c.in_ok-field.field (sym c.in_ok-field.ensures.ok_part ∙ c.read_next.ensures)
 
 pub returns-then-is_some : goal.returns-then-is_some
-returns-then-is_some g c =
-    more_fields c.args.form c.args.line.now c.loop-i.i c.loop-i.numbers c.loop-i.fit c.loop-i.next c.if-is_some.ensures c.loop-i.invariant (search rules)
+returns-then-is_some g c = more_fields c.args.form c.args.line.now c.loop-i.i c.loop-i.found c.loop-i.next c.if-is_some.ensures c.loop-i.invariant (search rules)
 
-pub returns-then-fit-2 : goal.returns-then-fit-2
-returns-then-fit-2 g c =
-    each_fits c.args.form c.args.line.now c.loop-i.i c.loop-i.numbers c.loop-i.fit c.loop-i.next c.if-is_some.ensures c.if-fit-2.true c.loop-i.invariant (search rules)
+pub returns-in_err-numbers : goal.returns-in_err-numbers
+returns-in_err-numbers g c =
+    err_is c.from_residual-in_err-numbers.result BadNumber (search rules)
+    ∙ missing c.loop-i.found c.loop-i-2.numbers c.loop-i-2.i c.loop-i-2.invariant.there (search rules) c.in_err-numbers.ensures.ok_part
+    ∙ all_read c.args.form c.args.line.now c.loop-i.i c.loop-i.found c.loop-i.next c.if-is_some.ensures c.loop-i.invariant (search rules)
 
-pub returns-else-fit-2 : goal.returns-else-fit-2
-returns-else-fit-2 g c =
-    one_unfit c.args.form c.args.line.now c.loop-i.i c.loop-i.numbers c.loop-i.fit c.loop-i.next c.if-is_some.ensures c.if-fit-2.false c.loop-i.invariant (search rules)
+pub returns : goal.returns
+returns g c =
+    let there = all_there c.loop-i.found c.loop-i-2.numbers c.loop-i-2.i c.loop-i-2.invariant.there (search rules) (search rules) in
+    let read = all_read c.args.form c.args.line.now c.loop-i.i c.loop-i.found c.loop-i.next c.if-is_some.ensures c.loop-i.invariant (search rules) in
+    ap unless_bad (sym there) ∙ read

@@ -1,12 +1,12 @@
-use Rattle.std.proofs.Common.{rules}
-use Rattle.fields.proofs.Values.{no_number, one_digit, all_digits}
+use Rattle.std.proofs.Common.{tests, rules, arith}
+use Rattle.std.specs.Char.{is_ascii_digit}
+use Rattle.std.proofs.lemmas.Iterator.{YieldsList-from_slice}
+use Rattle.std.proofs.lemmas.Iterator.Search.{all_from_yields_List}
+use Rattle.std.proofs.lemmas.Bool.Decides.{nat_tests}
+use Rattle.fields.proofs.Values.{all_digits}
 use Rattle.fields.proofs.numbers.is_number.Goals as goal
 
-pub returns-then-not-is_digit : goal.returns-then-not-is_digit
-returns-then-not-is_digit c = no_number c.args.text.now c.loop-byte.byte-index (search rules) c.loop-byte.invariant (search rules)
-
-pub loop-byte-preserved : goal.loop-byte-preserved
-loop-byte-preserved c = one_digit c.args.text.now c.loop-byte.byte-index (search rules) c.loop-byte.invariant (search rules)
-
-pub returns : goal.returns
-returns c = all_digits c.args.text.now c.loop-byte.byte-index (search rules) (search rules) c.loop-byte.invariant
+pub returns-then-not-is_empty : goal.returns-then-not-is_empty
+returns-then-not-is_empty c =
+    let all = all_from_yields_List is_ascii_digit _ _ c.all.result c.all.ensures.ran (YieldsList-from_slice c.args.text.now cc) (λ x b q k. search (rules, tests)) in
+    grind (arith, nat_tests, all_digits c.args.text.now)

@@ -1,13 +1,13 @@
-use Rattle.std.proofs.Common.{◌<◌, length, rules}
+use Rattle.std.proofs.Common.{rules}
 use Rattle.first_come.specs.declared.line.Entry.{Entry}
-use Rattle.first_come.proofs.Queues.{joined_sound, joined_line}
+use Rattle.first_come.proofs.Seats.{joined_neat, joined_seated}
 use Rattle.first_come.proofs.line.Line.join.Goals as goal
 
-pub returns : goal.returns
-returns c =
+pub invariant_of-self : goal.invariant_of-self
+invariant_of-self c =
     let l = c.args.self.now in
-    let p = c.requires in
     let e : Entry = record { task = c.args.task; code = c.args.code } in
-    let f : l.len < length l.entries = search rules in
-    let g : e.task < length l.seats = search rules in
-    record { sound = joined_sound l p.sound e f g p.room p.known p.new; line = joined_line l e f }
+    record {
+      neat = search (rules, joined_neat l.entries.items e l.neat c.requires.new c.requires.known);
+      seated = search (rules, joined_seated l.entries.items l.seats e l.seated c.requires.new (search rules));
+    }

@@ -1,5 +1,8 @@
-use Rattle.first_come.proofs.Queues.{Shifted}
+use Rattle.std.proofs.Common.{◌≡◌, ℕ, ◌-◌, ◌<◌, ◌≤◌, get_or}
 use Rattle.first_come.proofs.line.Line.leave.Given as goal
 
-abbrev pub invariant-loop-i : goal.invariant-loop-i
-invariant-loop-i l = Shifted l.i l.initial.self l.self
+abbrev pub invariant-loop-seat : goal.invariant-loop-seat
+invariant-loop-seat l = record {
+  fallen : (k : ℕ) → k < l.seat-index → get_or l.seat-items k 0 ≡ get_or l.fn.self.seats k 0 - 1;
+  left : (k : ℕ) → l.seat-index ≤ k → get_or l.seat-items k 0 ≡ get_or l.fn.self.seats k 0;
+}
