@@ -1,12 +1,13 @@
 -- How many pending jobs are ahead, when one record changes
-use Rattle.std.proofs.Common.{◌≡◌, ℕ, ◌+◌, ◌<◌, ◌≤◌, Bool, cond, ◌&&◌, ◌≢◌, List, length, get_or, set, take, filter, count_by, sym, ap, ◌∙◌, arith}
+use Rattle.std.proofs.Common.{◌≡◌, ℕ, ◌+◌, ◌<◌, ◌≤◌, Bool, cond, ◌&&◌, ◌≢◌, List, length, get_or, set, take, filter, count_by, sym, refl, ap, ◌∙◌, inl, inr, arith}
 use Rattle.std.proofs.lemmas.List.{get_or-set_same, get_or-set_other}
 use Rattle.std.proofs.lemmas.List.{take_all}
 use Rattle.std.proofs.lemmas.List.FromFn.{length-enumerate_from}
 use Rattle.std.proofs.lemmas.List.Sums.{length-filter}
 use Rattle.std.specs.List.{enumerate_from}
 use Rattle.orders.specs.Counting.{ahead as is_ahead}
-use Rattle.orders.proofs.Counts.{tally_top}
+use Rattle.std.proofs.lemmas.Bool.{cases_eq}
+use Rattle.orders.proofs.Counts.{tally_same, tally_top}
 use Rattle.jobs.specs.Jobs.{pending, demand}
 use Rattle.board.specs.declared.record.TaskRecord.{TaskRecord}
 use Rattle.board.specs.Boards.{blank, jobs_of}
@@ -70,3 +71,15 @@ module _ (rows : List TaskRecord) (t : ℕ) (old : TaskRecord) (k : ℕ) (known 
   demand_moved lost gained e f x h =
       let d : demand (jobs_of rows) k + cond lost 1 0 ≡ demand (jobs_of (set rows t old)) k + cond gained 1 0 = rw (e, f) (demand_shifts rows t old k known long apart) in
       omega arith
+
+-- a record that is as pending as it was, with the same code, leaves every demand as it was
+module _ (rows : List TaskRecord) (t : ℕ) (old : TaskRecord) (inside : t < length rows) (alike : pending old.state ≡ pending (get_or rows t blank).state) (code : old.code ≡ (get_or rows t blank).code) where
+  same_at : (i : ℕ) → (pending (get_or (set rows t old) i blank).state ≡ pending (get_or rows i blank).state) × ((get_or (set rows t old) i blank).code ≡ (get_or rows i blank).code)
+  same_at i = elim (cases_eq i t) [
+    | inl e ↦ rw (e, get_or-set_same rows t old blank inside) (alike, code)
+    | inr ne ↦ rw (get_or-set_other rows t i old blank ne) (refl, refl)
+  ]
+
+  pub demand_kept : (k : ℕ) → demand (jobs_of (set rows t old)) k ≡ demand (jobs_of rows) k
+  unfolding demand
+  demand_kept k = tally_same (rival rows k) (rival (set rows t old) k) 64 (λ i l. rw ((same_at i).0, (same_at i).1, (same_at k).1))

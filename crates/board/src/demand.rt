@@ -45,6 +45,10 @@ pub(crate) fn recount(rows: &[TaskRecord; 64], ahead: &mut [u32; 64], task: Task
 {
     let t = task.get() as usize;
     let new = rows[t];
+    // Where the job is as pending as it was, with the same code, no count changes.
+    if old.is_pending() == new.is_pending() && old.code == new.code {
+        return;
+    }
     let (was, is) = (old.rank(t), new.rank(t));
     // `iter_mut().zip(..)` was tried: the check knows nothing of what it writes.
     for (k, count) in ahead.iter_mut().enumerate() {

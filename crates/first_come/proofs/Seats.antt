@@ -1,10 +1,10 @@
 -- A line and its seats
-use Rattle.std.proofs.Common.{◌≡◌, ℕ, ◌+◌, ◌-◌, ◌<◌, ◌≤◌, true, false, eqb, List, [], ◌∷◌, ◌++◌, length, get_or, drop, set, Some, None, sym, refl, ap, ◌∙◌, inl, inr, arith}
+use Rattle.std.proofs.Common.{◌≡◌, ℕ, ◌+◌, ◌<◌, ◌≤◌, true, false, eqb, List, zero, suc, [], ◌∷◌, ◌++◌, length, get_or, drop, set, Some, None, sym, refl, ap, ◌∙◌, inl, inr, arith}
 use Rattle.std.specs.Bool.{then_some}
-use Rattle.std.proofs.lemmas.List.{get_or-set_same, get_or-set_other, get_or-drop, length-drop, length_push}
+use Rattle.std.proofs.lemmas.List.{get_or-set_same, get_or-set_other, length_push}
 use Rattle.std.proofs.Math.ListN.{get_or-append}
 use Rattle.std.proofs.Math.Seq.{get_or-append_seam}
-use Rattle.std.proofs.lemmas.Bool.{cases_lt}
+use Rattle.std.proofs.lemmas.Bool.{cases_eq, cases_lt}
 use Rattle.std.proofs.lemmas.Bool.Decides.{nat_tests}
 use Rattle.orders.specs.Orders.{asked}
 use Rattle.orders.proofs.Answered.{asked_some}
@@ -56,9 +56,26 @@ pub left_neat : (es fs : List Entry) → proper es ≡ true → fs ≡ drop 1 es
 left_neat [] fs ok is = rw is
 left_neat (x ∷ xs) fs ok is = rw is (grind arith)
 
-pub left_seated : (es : List Entry) (seats : List ℕ) → proper es ≡ true → Seated es seats → (fs : List Entry) (z : List ℕ) → fs ≡ drop 1 es → ((k : ℕ) → k < 64 → get_or z k 0 ≡ get_or seats k 0 - 1) → Seated fs z
-left_seated es seats ok seated fs z is fallen =
-    rw is (λ i b.
-    let near : 1 + i < length es = omega (arith, length-drop 1 es) in
-    let t = (get_or es (1 + i) blank).task in
-    rw (get_or-drop 1 es i blank) (fallen t (below_from_proper t es ok (has_at t (1 + i) es near refl)) ∙ omega (arith, seated (1 + i) near)))
+-- ---- each task gets its place as its seat
+
+pub task_below : (es : List Entry) → proper es ≡ true → (n : ℕ) → n < length es → (get_or es n blank).task < 64
+task_below es ok n b = let t = (get_or es n blank).task in below_from_proper t es ok (has_at t n es b refl)
+
+-- no task stands at two places
+apart : (es : List Entry) → proper es ≡ true → (i n : ℕ) → i < n → n < length es → (get_or es i blank).task ≡ (get_or es n blank).task → ⊥
+apart [] ok i n d b same = omega (arith, b)
+apart (x ∷ xs) ok i zero d b same = omega (arith, d)
+apart (x ∷ xs) ok zero (suc n) d b same = grind (arith, has_at x.task n xs (omega (arith, b)) (sym same))
+apart (x ∷ xs) ok (suc i) (suc n) d b same = apart xs (grind arith) i n (omega (arith, d)) (omega (arith, b)) same
+
+-- the first n tasks in line have their seats
+abbrev pub Placed : List Entry → ℕ → List ℕ → Type 0
+Placed es n seats = (i : ℕ) → i < n → get_or seats (get_or es i blank).task 0 ≡ i
+
+pub placed_more : (es : List Entry) → proper es ≡ true → (seats : List ℕ) (n : ℕ) → n < length es → length seats ≡ 64 → Placed es n seats → Placed es (n + 1) (set seats (get_or es n blank).task n)
+placed_more es ok seats n b long h i d =
+    let t = (get_or es n blank).task in
+    elim (cases_eq i n) [
+      | inl e ↦ rw e (get_or-set_same seats t n 0 (omega (arith, long, task_below es ok n b)))
+      | inr ne ↦ get_or-set_other seats t (get_or es i blank).task n 0 (apart es ok i n (omega (arith, ne, d)) b) ∙ h i (omega (arith, ne, d))
+    ]

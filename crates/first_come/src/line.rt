@@ -36,6 +36,16 @@ impl Default for Line {
     }
 }
 
+// Gives each task in line its place as its seat.
+fn reseat(entries: &ArrayVec<Entry, 64>, seats: &mut [u32; 64])
+    requires { proper entries.now.items ≡ true }
+    ensures { Seated entries.now.items seats.new }
+{
+    for (place, entry) in entries.iter().enumerate() {
+        seats[entry.task as usize] = place as u32;
+    }
+}
+
 impl Line {
     ghost use Rattle.std.specs.Prelude.{◌<◌, false, [], ◌∷◌, ◌++◌, length, drop};
     ghost use Rattle.orders.specs.Orders.{asked};
@@ -92,8 +102,6 @@ impl Line {
         ensures { waiting self.new ≡ drop 1 (waiting self.old) }
     {
         self.entries.remove(0);
-        for seat in &mut self.seats {
-            *seat = seat.saturating_sub(1);
-        }
+        reseat(&self.entries, &mut self.seats);
     }
 }

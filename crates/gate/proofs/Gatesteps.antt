@@ -1,5 +1,5 @@
 -- what the gate's code leaves
-use Rattle.std.proofs.Common.{◌≡◌, ℕ, ◌<◌, true, false, not, ◌&&◌, ltb, List, length, get_or, set, replicate, is_some, unwrap_or, option_map, IfSome, ◌==◌, Some, None, Ok, Err, Option, Result, sym, refl, ap, ◌∙◌, subst, inl, inr, arith}
+use Rattle.std.proofs.Common.{◌≡◌, ℕ, ◌<◌, true, false, not, ◌&&◌, ltb, List, length, get_or, set, replicate, option_map, IfSome, ◌==◌, Some, None, Ok, Err, Option, Result, sym, refl, ap, ◌∙◌, subst, inl, inr, arith}
 use Rattle.std.proofs.lemmas.List.{get_or-replicate, get_or_past, length-replicate, get_or-set_same, get_or-set_other, length-set}
 use Rattle.std.proofs.lemmas.Bool.{and_parts, cases_lt, cases_eq, cases_Bool, true≢false, lt-ltb, or_parts}
 use Rattle.orders.specs.declared.refusal.OrderRefusal.{OrderRefusal}
@@ -11,7 +11,7 @@ use Rattle.gate.specs.declared.row.Row.{Row}
 use Rattle.gate.specs.declared.gate.Gate.{Gate}
 use Rattle.orders.specs.Orders.{Meaning, size, admit_answer}
 use Rattle.orders.specs.Gating.{idle, fit, inside, gated}
-use Rattle.gate.specs.Gates.{no_row, fresh_row, fresh_rows, slot, Put, marked, noted, gate_meaning, Entered, Beside, GateAdmitted, Moved, GatePassed, Best}
+use Rattle.gate.specs.Gates.{no_row, fresh_row, fresh_rows, Put, marked, noted, gate_meaning, Entered, Beside, GateAdmitted, Moved, GatePassed, Best}
 use Rattle.gate.specs.Gates.Moves.{moved}
 use Rattle.orders.specs.Counting.{ahead}
 use Rattle.orders.proofs.Ranks.{Leads}
@@ -23,61 +23,62 @@ use Rattle.gate.specs.Gatelaws.{fit_parts, marked_bound, none_queued}
 
 -- ---- rows
 
-module _ (rows next : List Row) (q u : ℕ) where
-  same_mark : slot next q u ≡ slot rows q u → marked next q u ≡ marked rows q u
-  same_mark e = ap (λ o. ltb q 32 && (ltb u 64 && is_some o)) e
-
-  same_code : slot next q u ≡ slot rows q u → noted next q u ≡ noted rows q u
-  same_code e = ap (λ o. unwrap_or o 0) e
-
-unmarked : (rows : List Row) (r u : ℕ) → slot rows r u ≡ None → marked rows r u ≡ false
-unmarked rows r u e = ap (λ o. ltb r 32 && (ltb u 64 && is_some o)) e ∙ grind arith
-
 -- the row of r is written
 module _ (rows : List Row) (r : ℕ) (row : Row) (long : r < length rows) where
-  other_slot : (q u : ℕ) → (q ≡ r → ⊥) → slot (set rows r row) q u ≡ slot rows q u
-  other_slot q u ne = ap (λ x. get_or x.waits u None) (get_or-set_other rows r q row no_row ne)
+  other_row : (q : ℕ) → (q ≡ r → ⊥) → get_or (set rows r row) q no_row ≡ get_or rows q no_row
+  other_row q ne = get_or-set_other rows r q row no_row ne
 
-  this_slot : (u : ℕ) → slot (set rows r row) r u ≡ get_or row.waits u None
-  this_slot u = ap (λ x. get_or x.waits u None) (get_or-set_same rows r row no_row long)
+  this_row : get_or (set rows r row) r no_row ≡ row
+  this_row = get_or-set_same rows r row no_row long
 
   pub beside_set : Beside rows r (set rows r row)
-  beside_set = record {
-    marks = λ q u ne. same_mark rows (set rows r row) q u (other_slot q u ne);
-    codes = λ q u ne. same_code rows (set rows r row) q u (other_slot q u ne);
-  }
+  beside_set = record { marks = λ q u ne. rw (other_row q ne); codes = λ q u ne. rw (other_row q ne) }
 
-  pub cleared_set : row ≡ fresh_row → (u : ℕ) → marked (set rows r row) r u ≡ false
-  cleared_set e u = unmarked (set rows r row) r u (this_slot u ∙ ap (λ x. get_or x.waits u None) e ∙ fresh 64 None None refl u)
+  mark_set : (u : ℕ) → marked (set rows r row) r u ≡ (ltb r 32 && (ltb u 64 && get_or row.waits u false))
+  mark_set u = rw this_row
+
+  code_set : (u : ℕ) → noted (set rows r row) r u ≡ get_or row.codes u 0
+  code_set u = rw this_row
+
+  pub unmarked_set : (u : ℕ) → get_or row.waits u false ≡ false → marked (set rows r row) r u ≡ false
+  unmarked_set u e = mark_set u ∙ rw e (grind arith)
 
   module _ (t : ℕ) (o : Option ℕ) (p : Put (get_or rows r no_row) t o row) where
-    put_here : slot (set rows r row) r t ≡ o
-    put_here = this_slot t ∙ p.here
+    put_marks : (q u : ℕ) → (q ≡ r → u ≡ t → ⊥) → marked (set rows r row) q u ≡ marked rows q u
+    put_marks q u ne = elim (cases_eq q r) [
+      | inl e ↦ subst (λ x. marked (set rows r row) x u ≡ marked rows x u) (sym e) (mark_set u ∙ ap (λ b. ltb r 32 && (ltb u 64 && b)) (p.marks u (ne e)))
+      | inr d ↦ beside_set.marks q u d
+    ]
 
-    put_others : (q u : ℕ) → (q ≡ r → u ≡ t → ⊥) → slot (set rows r row) q u ≡ slot rows q u
-    put_others q u ne = elim (cases_eq q r) [
-      | inl e ↦ subst (λ x. slot (set rows r row) x u ≡ slot rows x u) (sym e) (this_slot u ∙ p.others u (ne e))
-      | inr d ↦ other_slot q u d
+    put_codes : (q u : ℕ) → (q ≡ r → u ≡ t → ⊥) → noted (set rows r row) q u ≡ noted rows q u
+    put_codes q u ne = elim (cases_eq q r) [
+      | inl e ↦ subst (λ x. noted (set rows r row) x u ≡ noted rows x u) (sym e) (code_set u ∙ p.codes u (ne e))
+      | inr d ↦ beside_set.codes q u d
     ]
 
   pub entered_set : (t c : ℕ) → r < 32 → t < 64 → Put (get_or rows r no_row) t (Some c) row → Entered rows r t c (set rows r row)
-  entered_set t c rk tk p =
-      let next = set rows r row in
-      let e = put_here t (Some c) p in
-      record {
-        mark = ap (λ o. ltb r 32 && (ltb t 64 && is_some o)) e ∙ rw (lt-ltb r 32 rk, lt-ltb t 64 tk);
-        code = ap (λ o. unwrap_or o 0) e;
-        marks = λ q u ne. same_mark rows next q u (put_others t (Some c) p q u ne);
-        codes = λ q u ne. same_code rows next q u (put_others t (Some c) p q u ne);
-      }
+  entered_set t c rk tk p = record {
+    mark = mark_set t ∙ rw (p.mark, lt-ltb r 32 rk, lt-ltb t 64 tk);
+    code = code_set t ∙ p.code;
+    marks = put_marks t (Some c) p;
+    codes = put_codes t (Some c) p;
+  }
 
--- in a new gate no slot is taken
-pub new_slot : (r t : ℕ) → slot fresh_rows r t ≡ None
-new_slot r t =
-    elim (cases_lt r 32) [
-      | inl b ↦ ap (λ x. get_or x.waits t None) (get_or-replicate 32 r fresh_row no_row b) ∙ fresh 64 None None refl t
-      | inr b ↦ ap (λ x. get_or x.waits t None) (get_or_past (replicate 32 fresh_row) r no_row (simp length-replicate b))
-    ]
+  -- whoever waits no more keeps the code
+  kept_codes : (t : ℕ) → Put (get_or rows r no_row) t None row → (u : ℕ) → noted (set rows r row) r u ≡ noted rows r u
+  kept_codes t p u = code_set u ∙ elim (cases_eq u t) [
+    | inl e ↦ subst (λ x. get_or row.codes x 0 ≡ noted rows r x) (sym e) p.code
+    | inr ne ↦ p.codes u ne
+  ]
+
+-- in a new gate nobody is marked
+pub new_mark : (r t : ℕ) → marked fresh_rows r t ≡ false
+new_mark r t =
+    let blank : get_or (get_or fresh_rows r no_row).waits t false ≡ false = elim (cases_lt r 32) [
+      | inl b ↦ ap (λ x. get_or x.waits t false) (get_or-replicate 32 r fresh_row no_row b) ∙ fresh 64 false false refl t
+      | inr b ↦ ap (λ x. get_or x.waits t false) (get_or_past (replicate 32 fresh_row) r no_row (simp length-replicate b))
+    ] in
+    rw blank (grind arith)
 
 -- ---- admit
 
@@ -152,12 +153,10 @@ module _ {L : Type 0} (o : Ghosts L) (laws : Lawful o) (s : Gate L) where
         let long2 : r < length mid-rows = simp length-set long in
         let b1 = beside_set rows r one long in
         let b2 = beside_set mid-rows r two long2 in
-        let stays : (u : ℕ) → (u ≡ h → ⊥) → (u ≡ t → ⊥) → slot next r u ≡ slot rows r u = λ u nh nt.
-        (put_others mid-rows r two long2 t None p2 r u (λ _ d. nt d) ∙ put_others rows r one long h None p1 r u (λ _ d. nh d)) in
-        let taken : slot next r t ≡ None = put_here mid-rows r two long2 t None p2 in
-        let gone : slot next r h ≡ None = elim (cases_eq h t) [
-          | inl d ↦ subst (λ x. slot next r x ≡ None) (sym d) taken
-          | inr ne ↦ put_others mid-rows r two long2 t None p2 r h (λ _ d. ne d) ∙ put_here rows r one long h None p1
+        let taken : get_or two.waits t false ≡ false = p2.mark in
+        let gone : get_or two.waits h false ≡ false = elim (cases_eq h t) [
+          | inl d ↦ subst (λ x. get_or two.waits x false ≡ false) (sym d) taken
+          | inr ne ↦ p2.marks h ne ∙ ap (λ x. get_or x.waits h false) (this_row rows r one long) ∙ p1.mark
         ] in
         let who = (open_held r h held).1 in
         let same : (u : ℕ) → low.holder r ≡ Some u → h ≡ u = λ u x. (let y : Some h ≡ Some u = sym who ∙ x in cc) in
@@ -167,10 +166,10 @@ module _ {L : Type 0} (o : Ghosts L) (laws : Lawful o) (s : Gate L) where
           best = λ u i. best.2 u (marked_bound rows r u (inside_parts low (marked rows) r u i).mark).1 i;
           answer = a;
           joins = subst (λ x. o.admitted mid r t x a z) code joins;
-          left = λ u x. unmarked next r u (subst (λ y. slot next r y ≡ None) (same u x) gone);
-          taken = unmarked next r t taken;
-          marks = λ u x ne. same_mark rows next r u (stays u (other u x) ne);
-          codes = λ u x ne. same_code rows next r u (stays u (other u x) ne);
+          left = λ u x. unmarked_set mid-rows r two long2 u (subst (λ y. get_or two.waits y false ≡ false) (same u x) gone);
+          taken = unmarked_set mid-rows r two long2 t taken;
+          marks = λ u x ne. put_marks mid-rows r two long2 t None p2 r u (λ _ d. ne d) ∙ put_marks rows r one long h None p1 r u (λ _ d. other u x d);
+          codes = λ u. kept_codes mid-rows r two long2 t p2 u ∙ kept_codes rows r one long h p1 u;
         } in
         record {
           told = ap Ok e ∙ sym (pass_fine (gate_meaning o s) r h ((gate_meaning o (after z next)).holder r) rk held);
@@ -194,6 +193,6 @@ new_empty o laws s e f r t =
       | inl y ↦
           let all : idle v ≡ true = sym e ∙ (and_parts s.fresh (fit v) y).0 in
           let out = nobody v (laws.rules s.lower) all r t in
-          let bare : marked s.rows r t ≡ false = unmarked s.rows r t (ap (λ x. slot x r t) f ∙ new_slot r t) in
+          let bare : marked s.rows r t ≡ false = ap (λ x. marked x r t) f ∙ new_mark r t in
           rw (y, out, bare)
     ]

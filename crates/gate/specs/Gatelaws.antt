@@ -1,5 +1,5 @@
 -- the gate, open or closed, is an order of service over any other
-use Rattle.std.specs.Prelude.{◌≡◌, ℕ, ◌+◌, ◌*◌, ◌<◌, true, false, ◌&&◌, List, Some, None, Ok, Err, Option, Result, ◌==◌, ◌≢◌, nat_le, nat_lt, is_some, refl}
+use Rattle.std.specs.Prelude.{◌≡◌, ℕ, ◌+◌, ◌*◌, ◌<◌, true, false, ◌&&◌, List, get_or, Some, None, Ok, Err, Option, Result, ◌==◌, ◌≢◌, nat_le, nat_lt, slice_index_or, refl}
 use Rattle.std.proofs.Common.{arith, sym, ◌∙◌, ap, subst, inl, inr}
 use Rattle.std.proofs.lemmas.Bool.{and_parts, cases_lt, cases_Bool, true≢false, eqb-true, leb-true, ltb-true, or_parts}
 use Rattle.orders.specs.declared.refusal.OrderRefusal.{OrderRefusal}
@@ -9,7 +9,7 @@ use Rattle.gate.specs.declared.row.Row.{Row}
 use Rattle.gate.specs.declared.gate.Gate.{Gate}
 use Rattle.orders.specs.Orders.{Meaning, Rules, Admits, Passes, Joined, Left, Fixed, size, admit_answer}
 use Rattle.orders.specs.Gating.{fit, inside, gated, shut}
-use Rattle.gate.specs.Gates.{slot, marked, noted, gate_meaning, Beside, GateAdmitted, Moved, Moves, GatePassed}
+use Rattle.gate.specs.Gates.{no_row, marked, noted, gate_meaning, Beside, GateAdmitted, Moved, Moves, GatePassed}
 use Rattle.gate.specs.Gates.Moves.{nobody, moved}
 use Rattle.orders.proofs.Counts.{tally_none}
 use Rattle.orders.proofs.Answered.{admit_ok, admit_fine, pass_ok, pass_fine}
@@ -27,8 +27,8 @@ fit_same v w f = rw (f.width, f.places, f.reach)
 
 pub marked_bound : (rows : List Row) → Bound (marked rows)
 marked_bound rows r t h =
-    let a = and_parts (nat_lt r 32) (nat_lt t 64 && is_some (slot rows r t)) h in
-    let b = and_parts (nat_lt t 64) (is_some (slot rows r t)) a.1 in
+    let a = and_parts (nat_lt r 32) (nat_lt t 64 && slice_index_or (get_or rows r no_row).waits t false) h in
+    let b = and_parts (nat_lt t 64) (slice_index_or (get_or rows r no_row).waits t false) a.1 in
     (ltb-true r 32 a.0, ltb-true t 64 b.0)
 
 pub none_queued : (m r : ℕ) → size (shut m) r ≡ 0
@@ -138,7 +138,7 @@ module _ {L : Type 0} (o : Ghosts L) (laws : Lawful o) where
         let w = inside_parts (mean s.lower) (marked s.rows) r t m.waits in
         let j = lower_joined t z m in
         let f : Fixed (mean s.lower) (mean z.lower) = record { width = j.1.width ∙ P.fixed.width; places = j.1.places ∙ P.fixed.places; reach = j.1.reach ∙ P.fixed.reach } in
-        (left_moved (mean s.lower) (mean mid) (mean z.lower) (marked s.rows) (marked z.rows) (noted s.rows) (noted z.rows) ok (laws.rules z.lower) f.width f.reach r h t held lower_left w m.best (marked_bound s.rows r t w.mark).1 j.0 (m.left h held) m.marks m.codes i.marks i.codes, f)
+        (left_moved (mean s.lower) (mean mid) (mean z.lower) (marked s.rows) (marked z.rows) (noted s.rows) (noted z.rows) ok (laws.rules z.lower) f.width f.reach r h t held lower_left w m.best (marked_bound s.rows r t w.mark).1 j.0 (m.left h held) m.marks (λ u _ _. m.codes u) i.marks i.codes, f)
 
   pub gate_passes : (s : Gate L) (r : ℕ) (a : Result (Option ℕ) OrderRefusal) (z : Gate L) → GatePassed o s r a z → Passes (gate_meaning o s) r a (gate_meaning o z)
   gate_passes s r (Err e) z h =

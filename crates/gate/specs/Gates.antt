@@ -1,5 +1,5 @@
 -- The gate before an order of service
-use Rattle.std.specs.Prelude.{◌≡◌, ℕ, ◌<◌, Bool, true, false, cond, ◌&&◌, List, [], get_or, replicate, is_some, unwrap_or, Some, None, Ok, Err, Option, Result, ◌≢◌, nat_lt, slice_index_or}
+use Rattle.std.specs.Prelude.{◌≡◌, ℕ, ◌<◌, Bool, true, false, cond, ◌&&◌, List, [], get_or, replicate, is_some, unwrap_or, Some, None, Ok, Err, Option, Result, ◌≢◌, nat_lt, slice_index, slice_index_or}
 use Rattle.orders.specs.declared.rank.Rank.{Rank}
 use Rattle.orders.specs.declared.refusal.OrderRefusal.{OrderRefusal}
 use Rattle.orders.specs.declared.order.Order.{Ghosts}
@@ -12,32 +12,31 @@ use Rattle.gate.specs.declared.gate.Gate.{Gate}
 
 -- the row of a resource that the gate does not have
 abbrev pub no_row : Row
-no_row = record { waits = [] }
+no_row = record { waits = []; codes = [] }
 
 -- the row of a new gate: nobody waits
 abbrev pub fresh_row : Row
-fresh_row = record { waits = replicate 64 None }
+fresh_row = record { waits = replicate 64 false; codes = replicate 64 0 }
 
 -- the rows of a new gate
 abbrev pub fresh_rows : List Row
 fresh_rows = replicate 32 fresh_row
 
--- what the row of r has for t: its code, if it is there
-abbrev pub slot : List Row → ℕ → ℕ → Option ℕ
-slot rows r t = slice_index_or (get_or rows r no_row).waits t None
-
--- the row next is row but for its slot of t, which is o
+-- the row next is row, but that t waits with the code o or, where that is none, waits no
+-- more and keeps its code
 pub record Put (row : Row) (t : ℕ) (o : Option ℕ) (next : Row) : Type 0 where
-  pub here : slice_index_or next.waits t None ≡ o
-  pub others : (u : ℕ) → (u ≢ t) → slice_index_or next.waits u None ≡ slice_index_or row.waits u None
+  pub mark : slice_index_or next.waits t false ≡ is_some o
+  pub code : slice_index next.codes t ≡ unwrap_or o (slice_index row.codes t)
+  pub marks : (u : ℕ) → (u ≢ t) → slice_index_or next.waits u false ≡ slice_index_or row.waits u false
+  pub codes : (u : ℕ) → (u ≢ t) → slice_index next.codes u ≡ slice_index row.codes u
 
 -- t is marked in the row of r
 abbrev pub marked : List Row → ℕ → ℕ → Bool
-marked rows r t = nat_lt r 32 && (nat_lt t 64 && is_some (slot rows r t))
+marked rows r t = nat_lt r 32 && (nat_lt t 64 && slice_index_or (get_or rows r no_row).waits t false)
 
 -- the code that the row of r has for t
 abbrev pub noted : List Row → ℕ → ℕ → ℕ
-noted rows r t = unwrap_or (slot rows r t) 0
+noted rows r t = slice_index (get_or rows r no_row).codes t
 
 -- the rank of a task t with the code c
 abbrev pub ranked : ℕ → ℕ → Rank
@@ -86,7 +85,7 @@ module _ {L : Type 0} (o : Ghosts L) where
     pub left : (u : ℕ) → o.holder s.lower r ≡ Some u → marked z.rows r u ≡ false
     pub taken : marked z.rows r b ≡ false
     pub marks : (u : ℕ) → (o.holder s.lower r ≢ Some u) → (u ≢ b) → marked z.rows r u ≡ marked s.rows r u
-    pub codes : (u : ℕ) → (o.holder s.lower r ≢ Some u) → (u ≢ b) → noted z.rows r u ≡ noted s.rows r u
+    pub codes : (u : ℕ) → noted z.rows r u ≡ noted s.rows r u
 
   -- after the pass below left mid: nobody waited in the gate, or the best-ranked task moved
   pub data Moves (s : Gate L) (mid : L) (r : ℕ) (z : Gate L) : Type 0 where

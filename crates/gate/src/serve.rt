@@ -110,7 +110,7 @@ impl<L: Order> Gate<L> {
     fn noted(&self, resource: u32, task: u32) -> Option<u64>
         ensures { result ≡ asked (marked self.now.rows resource task) (noted self.now.rows resource task) }
     {
-        *self.rows.get(resource as usize)?.waits.get(task as usize)?
+        self.rows.get(resource as usize)?.code(task)
     }
 
     // The rank of a task that is in the row of a resource, and not queued below.
@@ -246,7 +246,7 @@ impl<L: Order> Order for Gate<L> {
             return Ok(());
         }
         // Nobody waits in the gate here; what the row still has marked counts no more.
-        self.rows[resource as usize] = Row::empty();
+        self.rows[resource as usize].clear();
         self.lower.admit(resource, task, urgency)
     }
 

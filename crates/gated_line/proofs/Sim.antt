@@ -1,5 +1,5 @@
 -- the gate over first-come at resource 0, as two lists
-use Rattle.std.proofs.Common.{◌≡◌, ℕ, ◌+◌, ◌-◌, ◌*◌, ◌<◌, Bool, true, false, cond, not, ◌&&◌, ◌||◌, eqb, ltb, leb, List, [], ◌∷◌, ◌++◌, length, drop, is_some, Some, Ok, Option, Result, sym, refl, ap, ◌∙◌, subst, inl, inr, arith}
+use Rattle.std.proofs.Common.{◌≡◌, ℕ, ◌+◌, ◌-◌, ◌*◌, ◌<◌, Bool, true, false, cond, not, ◌&&◌, ◌||◌, eqb, ltb, leb, List, [], ◌∷◌, ◌++◌, length, drop, Some, Ok, Option, Result, sym, refl, ap, ◌∙◌, subst, inl, inr, arith}
 use Rattle.std.proofs.lemmas.Bool.{and_parts, or_cases, or_parts, cases_eq, cases_Bool, ltb-true, eqb-true, eq-eqb, ne_eqb, true≢false}
 use Rattle.orders.specs.declared.refusal.OrderRefusal.{OrderRefusal}
 use Rattle.first_come.specs.declared.line.Entry.{Entry}
@@ -11,13 +11,13 @@ use Rattle.first_come.specs.First.{line_of, first_meaning, FirstAdmitted, FirstP
 use Rattle.orders.specs.Services.{Lawful}
 use Rattle.orders.specs.Gating.{fit, inside}
 use Rattle.gate.specs.declared.gate.Gate.{Gate}
-use Rattle.gate.specs.Gates.{fresh_rows, marked, noted, gate_meaning, in_gate, GateAdmitted, GatePassed, Moves}
+use Rattle.gate.specs.Gates.{marked, noted, gate_meaning, in_gate, GateAdmitted, GatePassed, Moves}
 use Rattle.gate.specs.Gates.Moves.{nobody, moved}
 use Rattle.orders.proofs.Answered.{pass_fine}
 use Rattle.first_come.specs.Lined.{has_push, code_push, code_last, lined_rules}
 use Rattle.first_come.specs.Firsts.{neat_of, first_admits, first_passes}
 use Rattle.orders.proofs.Gated.{or_never, inside_parts, inside_from, some_same}
-use Rattle.gate.proofs.Gatesteps.{open_answer, new_slot}
+use Rattle.gate.proofs.Gatesteps.{open_answer, new_mark}
 use Rattle.gated_line.specs.GatedLine.{line_order, Empty}
 use Rattle.gated_line.proofs.Lines.{Lined, line_size, line_admit, line_new}
 
@@ -198,19 +198,13 @@ module _ {g : Gate FirstCome} {m : ℕ} {x : Entry} {xs ys : List Entry} (s : Si
           ];
           codes = λ u y. elim (cases_eq u b) [
             | inl e ↦ absurd (true≢false (sym y ∙ subst (λ v. has v (without b ys) ≡ false) (sym e) (lacks_without b ys)))
-            | inr ne ↦
-                let before : has u ys ≡ true = sym (has_without u b ys ne) ∙ y in
-                let nh : u ≡ x.task → ⊥ = λ e. true≢false (sym before ∙ ap (λ v. has v ys) e ∙ gone) in
-                mv.codes u (λ e. nh (some_same u x.task (sym e ∙ first_held))) (λ e. ne (e ∙ same)) ∙ s.codes u before ∙ sym (code_without u b ys ne)
+            | inr ne ↦ mv.codes u ∙ s.codes u (sym (has_without u b ys ne) ∙ y) ∙ sym (code_without u b ys ne)
           ];
         }
 
     -- the best-ranked of the gate went below
     pub sim_moved : Sim z m (xs ++ (entry b (code_of b ys) ∷ [])) (without b ys)
     sim_moved = let d = parts in best_moves d.0 (tail d.0 d.1 d.2) d.3
-
-fresh_mark : (u : ℕ) → marked fresh_rows 0 u ≡ false
-fresh_mark u = ap (λ o. ltb u 64 && is_some o) (new_slot 0 u) ∙ elim (ltb u 64) as (λ b. (b && false) ≡ false) [ true ↦ refl | false ↦ refl ]
 
 -- ---- questions
 
@@ -253,6 +247,6 @@ pub sim_new : {g : Gate FirstCome} {m : ℕ} → Empty m g → (leb 1 m && leb m
 sim_new e w = record {
   fresh = e.fresh;
   below = line_new e.width (e.places ∙ rw w) e.lines;
-  marks = λ u. ap (λ rows. marked rows 0 u) e.rows ∙ fresh_mark u;
+  marks = λ u. ap (λ rows. marked rows 0 u) e.rows ∙ new_mark 0 u;
   codes = λ u y. absurd (true≢false (sym y));
 }

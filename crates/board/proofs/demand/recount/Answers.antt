@@ -1,10 +1,19 @@
-use Rattle.std.proofs.Common.{◌∙◌, rules, arith, slice_set}
-use Rattle.board.specs.Boards.{jobs_of, Counted}
-use Rattle.jobs.specs.Jobs.{demand}
+use Rattle.std.proofs.Common.{◌≡◌, ◌<◌, length, get_or, ◌∙◌, rules, arith, slice_set}
+use Rattle.board.specs.Boards.{blank, jobs_of, Counted}
+use Rattle.jobs.specs.Jobs.{pending, demand}
 use Rattle.board.proofs.Ticks.{done_set}
-use Rattle.board.proofs.Demands.{demand_moved, demand_fits}
+use Rattle.board.proofs.Demands.{demand_kept, demand_moved, demand_fits}
 use Rattle.board.proofs.demand.recount.Goals as goal
 use Rattle.board.proofs.demand.recount.Goals.{then-k-t, else-k-t}
+
+pub returns-then-old-new : goal.returns-then-old-new
+returns-then-old-new c k b =
+    let t = c.get-t.result in
+    let counted : Counted (slice_set c.args.rows.now t c.args.old) c.args.ahead.now = rw c.get-t.ensures c.requires in
+    let inside : t < length c.args.rows.now = search rules in
+    let alike : pending c.args.old.state ≡ pending (get_or c.args.rows.now t blank).state = grind (arith, c.is_pending.ensures, c.is_pending-2.ensures, c.if-is_pending.true) in
+    let code : c.args.old.code ≡ (get_or c.args.rows.now t blank).code = c.if-old-new.true in
+    counted k b ∙ demand_kept c.args.rows.now t c.args.old inside alike code k
 
 pub shifted-requires : goal.shifted-requires
 shifted-requires c =
