@@ -33,8 +33,8 @@ impl Row {
         }
     }
 
-    // A task comes to wait, with its code; with none, it waits no more. The gate has just
-    // tested the number; a type for it would be made for this one call.
+    // A task comes to wait, with its code; with none, it waits no more. The gate has tested
+    // the number or has it from the order; a type for it would be made for these calls.
     pub(crate) fn put(&mut self, task: u32, code: Option<u64>)
         requires { task < 64 }
         ensures { Put self.old task code self.new }
